@@ -1,0 +1,120 @@
+-- A frame has one meaning, and a message has one frame. The statements, then their proofs. Assumes nothing.
+use Prim.Native.Nat.{ℕ, _<_, _^_}
+use mathlib.Core.Path.{_≡_, refl, ap, _∙_, sym}
+use mathlib.Core.Bool.{Bool, true, false, not, cond}
+use mathlib.Core.List.{List, [], _∷_, _++_}
+use native.Mathlib.Omega.{arith}
+use borrow.Author.Tests.{eqb-true, eq-eqb, ne-eqb, not-false}
+use lib.Dec.{eqb, lit<}
+use lib.ListN.{length, take, drop}
+use lib.Seq.{take-at}
+use Rattle.laws.specs.Big.{Bytes, fieldsIn, fieldBytes}
+use Rattle.laws.specs.Ladder.{refusal}
+use Rattle.laws.proofs.BigLaws.{fields-back, only-fields}
+use Rattle.laws.proofs.Ladders.{on, quiet, unrefused}
+use Rattle.frame.specs.declared.Message.{Message}
+use Rattle.frame.specs.declared.Fields.{Fields}
+use Rattle.frame.specs.declared.Reading.{Reading}
+use Rattle.frame.specs.Message.{blank}
+use Rattle.frame.specs.Frame.{mark, widths, frame, fieldsFrom, fieldsOf, messageRows, readRows, reading, readFrame, writeRows, writeNo, bytesAfter}
+
+-- the numbers have the widths of the code's arguments
+pub record InWidth (f : ℕ) (m : Message) : Type 0 where
+  pub feeder : f < 256
+  pub kind : m .kind < 256
+  pub sender : m .sender < 256
+  pub counter : m .counter < 256 ^ 4
+
+-- what is written reads back
+abbrev pub WrittenReadsBack : Type 0
+WrittenReadsBack =
+    (old : List ℕ) (f : ℕ) (m : Message) → InWidth f m → writeNo old m ≡ 0
+    → readFrame (take 12 (bytesAfter old f m)) ≡ record { number = 0; feeder = f; message = m }
+
+-- an accepted frame is the frame of what it reads as, and that can be written
+abbrev pub AcceptedIsFrame : Type 0
+AcceptedIsFrame =
+    (s : List ℕ) → Bytes s → readFrame s .number ≡ 0
+    → (s ≡ frame (readFrame s .feeder) (readFrame s .message)) × (refusal (writeRows 12 (readFrame s .message)) ≡ 0)
+
+-- so two accepted frames that read alike are the same bytes
+abbrev pub OneFrame : Type 0
+OneFrame = (s t : List ℕ) → Bytes s → Bytes t → readFrame s .number ≡ 0 → readFrame s ≡ readFrame t → s ≡ t
+
+-- ---- proofs
+
+back : (f : ℕ) (m : Message) → InWidth f m → refusal (messageRows m) ≡ 0 → readFrame (frame f m) ≡ record { number = 0; feeder = f; message = m }
+unfolding readFrame readRows fieldsOf frame
+back f m h e =
+    let vs : List ℕ = mark ∷ 1 ∷ f ∷ m .kind ∷ m .sender ∷ m .counter ∷ [] in
+    ap (λ (v : List ℕ). reading (refusal (readRows 12 (fieldsFrom v))) (fieldsFrom v))
+    (fields-back widths vs (lit< tt, (lit< tt, (h .feeder, (h .kind, (h .sender, (h .counter, tt)))))))
+    ∙ sym (on (eqb (refusal (messageRows m)) 0) _ _ (eq-eqb _ 0 e) refl)
+
+length-frame : (f : ℕ) (m : Message) → length (frame f m) ≡ 12
+unfolding frame
+length-frame f m = refl
+
+pub written-reads-back : WrittenReadsBack
+unfolding writeRows bytesAfter
+written-reads-back old f m h e =
+    ap (λ (s : List ℕ). readFrame (take 12 s)) (sym (on (eqb (writeNo old m) 0) _ _ (eq-eqb _ 0 e) refl))
+    ∙ ap readFrame (take-at (frame f m) (drop 12 old) 12 (length-frame f m))
+    ∙ back f m h (unrefused (messageRows m) (quiet (writeRows (length old) m) tt e .1))
+
+accepted : (n : ℕ) (f : Fields) → reading n f .number ≡ 0 → n ≡ 0
+accepted n f = go (eqb n 0) refl
+  where
+    go : (t : Bool) → eqb n 0 ≡ t → cond t (reading 0 f) (record { number = n; feeder = 0; message = blank }) .number ≡ 0 → n ≡ 0
+    go true p e = eqb-true n 0 p
+    go false p e = e
+
+-- what an accepted frame passed
+pub record Passed (s : List ℕ) : Type 0 where
+  pub whole : length s ≡ 12
+  pub marked : fieldsOf s .mark ≡ mark
+  pub version : fieldsOf s .version ≡ 1
+  pub message : refusal (messageRows (fieldsOf s .message)) ≡ 0
+  pub read : readFrame s ≡ reading 0 (fieldsOf s)
+
+pub has-passed : (s : List ℕ) → readFrame s .number ≡ 0 → Passed s
+unfolding readFrame readRows
+has-passed s e =
+    let f = fieldsOf s in
+    let z : refusal (readRows (length s) f) ≡ 0 = accepted (refusal (readRows (length s) f)) f e in
+    let q = quiet (readRows (length s) f) tt z in
+    record {
+      whole = eqb-true (length s) 12 (not-false _ (q .0));
+      marked = eqb-true (f .mark) mark (not-false _ (q .1 .0));
+      version = eqb-true (f .version) 1 (not-false _ (q .1 .1 .0));
+      message = unrefused (messageRows (f .message)) (q .1 .1 .1);
+      read = ap (λ (n : ℕ). reading n f) z;
+    }
+
+-- the six numbers that fields were made from
+abbrev numbers : Fields → List ℕ
+numbers f = f .mark ∷ f .version ∷ f .feeder ∷ f .message .kind ∷ f .message .sender ∷ f .message .counter ∷ []
+
+of-numbers : (s : List ℕ) → length s ≡ 12 → fieldsIn widths s ≡ numbers (fieldsOf s)
+unfolding fieldsOf
+of-numbers s e = ap numbers (on (eqb (length s) 12) (fieldsFrom (fieldsIn widths s)) (fieldsFrom []) (eq-eqb _ 12 e) refl)
+
+pub accepted-is-frame : AcceptedIsFrame
+unfolding writeRows frame
+accepted-is-frame s h e =
+    let p = has-passed s e in
+    let f = fieldsOf s in
+    let m = f .message in
+    let r : reading 0 f ≡ readFrame s = sym (p .read) in (
+      sym (only-fields widths s h (p .whole))
+          ∙ ap (fieldBytes widths) (of-numbers s (p .whole))
+          ∙ (λ i. fieldBytes widths (p .marked i ∷ p .version i ∷ f .feeder ∷ m .kind ∷ m .sender ∷ m .counter ∷ []))
+          ∙ (λ i. frame (r i .feeder) (r i .message)),
+      (λ i. refusal (writeRows 12 (p .read i .message))) ∙ p .message,
+    )
+
+pub one-frame : OneFrame
+one-frame s t hs ht e r =
+    accepted-is-frame s hs e .0
+    ∙ (λ i. frame (r i .feeder) (r i .message))
+    ∙ sym (accepted-is-frame t ht (sym (λ i. r i .number) ∙ e) .0)

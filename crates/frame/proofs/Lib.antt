@@ -1,0 +1,4 @@
+pub mod Stored
+pub mod Frames
+pub mod Stamps
+pub mod Unique

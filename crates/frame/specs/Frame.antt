@@ -1,0 +1,67 @@
+-- Frames: their bytes, and what reading and writing one give.
+use Prim.Native.Nat.{ℕ}
+use mathlib.Core.Path.{_≡_}
+use mathlib.Core.List.{List, [], _∷_, _++_}
+use mathlib.Core.Bool.{not, cond}
+use lib.ListN.{length, getD, drop}
+use lib.Dec.{ltb, eqb}
+use Rattle.laws.specs.Big.{fieldsIn, fieldBytes}
+use Rattle.laws.specs.Ladder.{Row, _when_, refusal}
+use Rattle.frame.specs.declared.Message.{Message}
+use Rattle.frame.specs.declared.Fields.{Fields}
+use Rattle.frame.specs.declared.Reading.{Reading}
+use Rattle.frame.specs.Message.{msg, blank, known}
+
+-- the bytes 46 50 4D
+abbrev pub mark : ℕ
+mark = 0x46504d
+
+-- the widths of mark, version, feeder, kind, sender, counter: 12 bytes
+abbrev pub widths : List ℕ
+widths = 3 ∷ 2 ∷ 1 ∷ 1 ∷ 1 ∷ 4 ∷ []
+
+-- the frame of a message on a feeder
+unfoldable pub frame : ℕ → Message → List ℕ
+frame feeder m = fieldBytes widths (mark ∷ 1 ∷ feeder ∷ m .kind ∷ m .sender ∷ m .counter ∷ [])
+
+abbrev pub fieldsFrom : List ℕ → Fields
+fieldsFrom v =
+    record { mark = getD v 0 0; version = getD v 1 0; feeder = getD v 2 0; message = msg (getD v 3 0) (getD v 4 0) (getD v 5 0) }
+
+-- what stands in the fields of 12 bytes; zeros where there are not 12
+unfoldable pub fieldsOf : List ℕ → Fields
+fieldsOf s = cond (eqb (length s) 12) (fieldsFrom (fieldsIn widths s)) (fieldsFrom [])
+
+-- the refusals that reading and writing share
+unfoldable pub messageRows : Message → List Row
+messageRows m = 7 when not (known (m .kind)) ∷ 8 when ltb 15 (m .sender) ∷ 9 when eqb (m .counter) 0 ∷ []
+
+-- reading n bytes with these fields
+unfoldable pub readRows : ℕ → Fields → List Row
+unfolding messageRows
+readRows n f = 3 when not (eqb n 12) ∷ 4 when not (eqb (f .mark) mark) ∷ 5 when not (eqb (f .version) 1) ∷ messageRows (f .message)
+
+-- what is read with the number n: the fields, or zeros where it is a refusal
+abbrev pub reading : ℕ → Fields → Reading
+reading n f = cond (eqb n 0) (record { number = 0; feeder = f .feeder; message = f .message }) (record { number = n; feeder = 0; message = blank })
+
+-- what reading a frame gives
+unfoldable pub readFrame : List ℕ → Reading
+readFrame s = reading (refusal (readRows (length s) (fieldsOf s))) (fieldsOf s)
+
+-- writing to n bytes
+unfoldable pub writeRows : ℕ → Message → List Row
+unfolding messageRows
+writeRows n m = 2 when ltb n 12 ∷ messageRows m
+
+abbrev pub writeNo : List ℕ → Message → ℕ
+writeNo old m = refusal (writeRows (length old) m)
+
+-- the bytes after writing over old: the first 12 are the frame, and a refusal leaves all
+unfoldable pub bytesAfter : List ℕ → ℕ → Message → List ℕ
+bytesAfter old feeder m = cond (eqb (writeNo old m) 0) (frame feeder m ++ drop 12 old) old
+
+-- what writing gives and leaves
+pub record Written (old new : List ℕ) (feeder : ℕ) (m : Message) (number : ℕ) : Type 0 where
+  pub gives : number ≡ writeNo old m
+  pub leaves : new ≡ bytesAfter old feeder m

@@ -1,0 +1,43 @@
+-- A message: its kind and its stamp. All crates cite these.
+use Prim.Native.Nat.{ℕ, _+_, _*_}
+use mathlib.Core.Bool.{Bool, _&&_, _||_}
+use lib.Dec.{leb, eqb}
+use Rattle.frame.specs.declared.Message.{Message}
+
+-- the message of kind k that post p sends with counter c
+abbrev pub msg : ℕ → ℕ → ℕ → Message
+msg k p c = record { kind = k; sender = p; counter = c }
+
+-- no message
+abbrev pub blank : Message
+blank = msg 0 0 0
+
+-- kinds: a take is 1, a return 2, an acknowledgment 3
+abbrev pub isTake : Message → Bool
+isTake m = eqb (m .kind) 1
+
+abbrev pub isReturn : Message → Bool
+isReturn m = eqb (m .kind) 2
+
+-- takes and returns are what is settled and counted
+abbrev pub counted : Message → Bool
+counted m = isTake m || isReturn m
+
+-- a kind that there is
+abbrev pub known : ℕ → Bool
+known k = leb 1 k && leb k 3
+
+-- counters go from 1 to this
+abbrev pub lastCounter : ℕ
+lastCounter = 4294967295
+
+-- a stamp as one number, which orders by counter and then by post (`stamp-order`)
+abbrev pub stampOf : ℕ → ℕ → ℕ
+stampOf counter post = 256 * counter + post
+
+abbrev pub stamp : Message → ℕ
+stamp m = stampOf (m .counter) (m .sender)
+
+-- sent by post p
+abbrev pub by : ℕ → Message → Bool
+by p m = eqb (m .sender) p

@@ -1,0 +1,102 @@
+-- A number below 256 ^ w reads back from its w bytes, and those are the only w bytes that read as it; the same of a row of fields.
+-- Once over the widths. Assumes nothing.
+use Prim.Native.Nat.{ℕ, zero, suc, _+_, _*_, _/_, _%_, _^_, _<_}
+use mathlib.Core.Path.{_≡_, refl, ap, ap₂, _∙_, sym}
+use mathlib.Core.List.{List, [], _∷_, _++_}
+use native.Mathlib.Omega.{arith}
+use native.Mathlib.Nat.{pow-suc, mul-comm, mul-assoc, mod-one, mod-eq-of-lt, add-mul, div-one}
+use lib.Arith.{mod-mul, digits-div, digits-mod, digits-lt}
+use lib.Dec.{lit<}
+use lib.ListN.{length, getD, take, drop, take-append-drop, length-drop, drop-of-length-le}
+use lib.Seq.{take-at, drop-at, length-take-le, drop-cons}
+use Rattle.laws.specs.Big.{Bytes, ofBe, toBe, total, fieldsIn, fieldBytes, Fit}
+
+pow-pos : (w : ℕ) → 0 < 256 ^ w
+pow-pos zero = lit< tt
+pow-pos (suc w) = let h = pow-pos w in rw pow-suc (omega arith)
+
+pub length-toBe : (w v : ℕ) → length (toBe w v) ≡ w
+length-toBe zero v = refl
+length-toBe (suc w) v = ap suc (length-toBe w v)
+
+of-to : (w v : ℕ) → ofBe (toBe w v) ≡ v % 256 ^ w
+of-to zero v = sym (mod-one v)
+of-to (suc w) v =
+    ap₂ (λ (n x : ℕ). v / 256 ^ w % 256 * 256 ^ n + x) (length-toBe w v) (of-to w v)
+    ∙ sym (mod-mul v {m = 256} {c = 256 ^ w} (lit< tt) (pow-pos w))
+    ∙ ap (λ (x : ℕ). v % x) (mul-comm 256 (256 ^ w) ∙ sym (pow-suc 256 w))
+
+pub reads-as : (w v : ℕ) → v < 256 ^ w → ofBe (toBe w v) ≡ v
+reads-as w v h = of-to w v ∙ mod-eq-of-lt h
+
+below : (bs : List ℕ) → Bytes bs → ofBe bs < 256 ^ length bs
+below [] h = lit< tt
+below (b ∷ bs) h =
+    let d : b * 256 ^ length bs + ofBe bs < 256 * 256 ^ length bs = digits-lt (h .0) (below bs (h .1)) in
+    rw (pow-suc, mul-comm (256 ^ length bs) 256) d
+
+-- whatever stands above them, the lowest bytes of the number are the bytes
+to-of : (a : ℕ) (bs : List ℕ) → Bytes bs → toBe (length bs) (a * 256 ^ length bs + ofBe bs) ≡ bs
+to-of a [] h = refl
+to-of a (b ∷ bs) h =
+    let P : ℕ = 256 ^ length bs in
+    let e : a * 256 ^ suc (length bs) + (b * P + ofBe bs) ≡ (a * 256 + b) * P + ofBe bs = above a b (length bs) (ofBe bs) in
+    ap (λ (x : ℕ). x / P % 256 ∷ toBe (length bs) x) e
+    ∙ ap₂ _∷_ (ap (λ (x : ℕ). x % 256) (digits-div (a * 256 + b) (below bs (h .1))) ∙ digits-mod a (h .0)) (to-of (a * 256 + b) bs (h .1))
+  where
+    above : (a b n o : ℕ) → a * 256 ^ suc n + (b * 256 ^ n + o) ≡ (a * 256 + b) * 256 ^ n + o
+    above a b n o = rw (pow-suc, add-mul, mul-assoc, mul-comm 256 (256 ^ n)) (omega arith)
+
+pub only-bytes : (bs : List ℕ) → Bytes bs → toBe (length bs) (ofBe bs) ≡ bs
+only-bytes bs h = ap (toBe (length bs)) (zero-above (256 ^ length bs) (ofBe bs)) ∙ to-of 0 bs h
+  where
+    zero-above : (p o : ℕ) → o ≡ 0 * p + o
+    zero-above p o = omega arith
+
+-- ---- rows of fields
+
+pub fields-back : (ws vs : List ℕ) → Fit ws vs → fieldsIn ws (fieldBytes ws vs) ≡ vs
+fields-back [] [] h = refl
+fields-back [] (v ∷ vs) h = absurd h
+fields-back (w ∷ ws) [] h = absurd h
+fields-back (w ∷ ws) (v ∷ vs) h =
+    let b = fieldBytes ws vs in
+    ap₂ _∷_
+    (ap ofBe (take-at (toBe w v) b w (length-toBe w v)) ∙ reads-as w v (h .0))
+    (ap (fieldsIn ws) (drop-at (toBe w v) b w (length-toBe w v)) ∙ fields-back ws vs (h .1))
+
+bytes-take : (n : ℕ) (s : List ℕ) → Bytes s → Bytes (take n s)
+bytes-take zero s h = tt
+bytes-take (suc n) [] h = tt
+bytes-take (suc n) (b ∷ s) h = (h .0, bytes-take n s (h .1))
+
+bytes-drop : (n : ℕ) (s : List ℕ) → Bytes s → Bytes (drop n s)
+bytes-drop zero s h = h
+bytes-drop (suc n) [] h = tt
+bytes-drop (suc n) (b ∷ s) h = bytes-drop n s (h .1)
+
+pub only-fields : (ws s : List ℕ) → Bytes s → length s ≡ total ws → fieldBytes ws (fieldsIn ws s) ≡ s
+only-fields [] [] h e = refl
+only-fields [] (b ∷ s) h e = absurd (omega arith)
+only-fields (w ∷ ws) s h e =
+    ap₂ _++_
+    (ap (λ (n : ℕ). toBe n (ofBe (take w s))) (sym (length-take-le w s (omega arith))) ∙ only-bytes (take w s) (bytes-take w s h))
+    (only-fields ws (drop w s) (bytes-drop w s h) (simp length-drop (omega arith)))
+    ∙ take-append-drop w s
+
+-- ---- a byte, and a list by its elements
+
+pub of-byte : (b : ℕ) → ofBe (b ∷ []) ≡ b
+of-byte b = omega arith
+
+pub to-byte : (b : ℕ) → b < 256 → toBe 1 b ≡ b ∷ []
+to-byte b h = ap (λ (x : ℕ). x ∷ []) (ap (λ (x : ℕ). x % 256) (div-one b) ∙ mod-eq-of-lt h)
+
+-- n elements of s from a on, one by one
+abbrev pub elements : List ℕ → ℕ → ℕ → List ℕ
+elements s a zero = []
+elements s a (suc n) = getD s a 0 ∷ elements s (suc a) n
+
+pub drop-elements : (s : List ℕ) (a n : ℕ) → length s ≡ a + n → drop a s ≡ elements s a n
+drop-elements s a zero h = drop-of-length-le s {i = a} (omega arith)
+drop-elements s a (suc n) h = drop-cons s a 0 (omega arith) ∙ ap (λ (l : List ℕ). getD s a 0 ∷ l) (drop-elements s (suc a) n (omega arith))

@@ -1,0 +1,1 @@
+// Definitions and laws that say nothing of posts, for every crate above. No code.
