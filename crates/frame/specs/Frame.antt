@@ -36,10 +36,14 @@ fieldsOf s = cond (eqb (length s) 12) (fieldsFrom (fieldsIn widths s)) (fieldsFr
 unfoldable pub messageRows : Message → List Row
 messageRows m = 7 when not (known (m .kind)) ∷ 8 when ltb 15 (m .sender) ∷ 9 when eqb (m .counter) 0 ∷ []
 
--- reading n bytes with these fields
+-- n bytes with these fields are no frame
+unfoldable pub formRows : ℕ → Fields → List Row
+formRows n f = 3 when not (eqb n 12) ∷ 4 when not (eqb (f .mark) mark) ∷ 5 when not (eqb (f .version) 1) ∷ []
+
+-- reading them
 unfoldable pub readRows : ℕ → Fields → List Row
-unfolding messageRows
-readRows n f = 3 when not (eqb n 12) ∷ 4 when not (eqb (f .mark) mark) ∷ 5 when not (eqb (f .version) 1) ∷ messageRows (f .message)
+unfolding formRows messageRows
+readRows n f = formRows n f ++ messageRows (f .message)
 
 -- what is read with the number n: the fields, or zeros where it is a refusal
 abbrev pub reading : ℕ → Fields → Reading

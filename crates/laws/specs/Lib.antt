@@ -1,2 +1,4 @@
 pub mod Ladder
 pub mod Big
+pub mod Lists
+pub mod Below

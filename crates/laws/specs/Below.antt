@@ -1,0 +1,23 @@
+-- Over the numbers below n: a test of each, a sum, and those that pass a test as a set of bits.
+use mathlib.Core.Bool.{Bool, true, false, cond, _&&_}
+use Prim.Native.Nat.{ℕ, zero, suc, _+_, _^_}
+
+unfoldable pub allTo : ℕ → (ℕ → Bool) → Bool
+allTo zero f = true
+allTo (suc n) f = f n && allTo n f
+
+unfoldable pub sumTo : ℕ → (ℕ → ℕ) → ℕ
+sumTo zero f = 0
+sumTo (suc n) f = f n + sumTo n f
+
+-- 1 for a test that passes
+abbrev pub one? : Bool → ℕ
+one? t = cond t 1 0
+
+-- how many pass
+abbrev pub countTo : ℕ → (ℕ → Bool) → ℕ
+countTo n f = sumTo n (λ i. one? (f i))
+
+-- bit i is set where i passes
+abbrev pub bitsTo : ℕ → (ℕ → Bool) → ℕ
+bitsTo n f = sumTo n (λ i. cond (f i) (2 ^ i) 0)

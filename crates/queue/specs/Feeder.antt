@@ -1,0 +1,85 @@
+-- A feeder: posts 0 to N - 1, each by its full queue, and runs of takes, returns and deliveries.
+use mathlib.Core.Bool.{not, cond, _&&_}
+use mathlib.Core.List.{List, [], _∷_}
+use Prim.Native.Nat.{ℕ}
+use lib.Dec.{ltb, eqb}
+use lib.ListN.{length, drop, replicate}
+use Rattle.laws.specs.Lists.{keep, many}
+use Rattle.laws.specs.Below.{sumTo, countTo}
+use Rattle.frame.specs.declared.Message.{Message}
+use Rattle.frame.specs.Message.{isReturn, by}
+use Rattle.frame.specs.Frame.{frame}
+use Rattle.queue.specs.Queue.{Start, Queue, grants, phase}
+use Rattle.queue.specs.Calls.{Call, take-call, return-call, receive-call, onQueue}
+
+-- what the posts of a feeder are started with alike
+pub record Line : Type 0 where
+  pub posts : ℕ
+  pub feeder : ℕ
+  pub places : ℕ
+
+-- each under its own number
+abbrev pub start : Line → ℕ → Start
+start L p = record { posts = L .posts; own = p; feeder = L .feeder; places = L .places }
+
+-- each post's queue, by its number
+abbrev pub Feeder : Type 0
+Feeder = ℕ → Queue
+
+abbrev pub fresh : Feeder
+fresh p = []
+
+-- what post p sent, what post q has accepted of it, and what q has still to accept
+abbrev pub sent : Feeder → ℕ → List Message
+sent s p = keep (by p) (s p)
+
+abbrev pub had : Feeder → ℕ → ℕ → List Message
+had s p q = keep (by p) (s q)
+
+unfoldable pub pending : Feeder → ℕ → ℕ → List Message
+pending s p q = drop (length (had s p q)) (sent s p)
+
+-- a take at p, a return at p, the next message of p offered to q
+pub data Act : Type 0 where
+  takeAt returnAt : ℕ → Act
+  deliver : ℕ → ℕ → Act
+
+-- the call that an act comes to: one at one post, or none
+pub data Made : Type 0 where
+  none : Made
+  at-post : ℕ → Call → Made
+
+-- the buffer that each call is lent
+abbrev pub buffer : List ℕ
+buffer = replicate 12 0
+
+abbrev pub offered : Line → ℕ → List Message → Made
+offered L q [] = none
+offered L q (m ∷ ms) = at-post q (receive-call (frame (L .feeder) m) buffer)
+
+unfoldable pub made : Line → Feeder → Act → Made
+made L s (takeAt p) = cond (ltb p (L .posts)) (at-post p (take-call buffer)) none
+made L s (returnAt p) = cond (ltb p (L .posts)) (at-post p (return-call buffer)) none
+made L s (deliver p q) = cond (ltb p (L .posts) && (ltb q (L .posts) && not (eqb p q))) (offered L q (pending s p q)) none
+
+-- post p has the queue q, the others theirs
+abbrev pub with-queue : Feeder → ℕ → Queue → Feeder
+with-queue s p q r = cond (eqb r p) q (s r)
+
+abbrev pub after : Line → Feeder → Made → Feeder
+after L s none = s
+after L s (at-post p c) = with-queue s p (onQueue (start L p) (s p) c .next)
+
+unfoldable pub run : Line → Feeder → List Act → Feeder
+run L s [] = s
+run L s (a ∷ acts) = run L (after L s (made L s a)) acts
+
+-- over all posts: returns sent, takes granted, posts in phase 3
+unfoldable pub returnsSent : Line → Feeder → ℕ
+returnsSent L s = sumTo (L .posts) (λ p. many isReturn (sent s p))
+
+unfoldable pub granted : Line → Feeder → ℕ
+granted L s = sumTo (L .posts) (λ p. length (grants (start L p) (s p)))
+
+unfoldable pub holding : Line → Feeder → ℕ
+holding L s = countTo (L .posts) (λ p. eqb (phase (start L p) (s p)) 3)

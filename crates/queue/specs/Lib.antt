@@ -1,0 +1,4 @@
+pub mod Queue
+pub mod Calls
+pub mod Feeder
+pub mod Demand3

@@ -1,0 +1,80 @@
+-- A post by its full queue: every message that it sent or accepted, sorted by stamp. All else is worked out from that list.
+use mathlib.Core.Bool.{Bool, not, cond, _&&_, _||_}
+use mathlib.Core.List.{List, [], _∷_}
+use Prim.Native.Nat.{ℕ, suc, _+_}
+use lib.Dec.{leb, ltb, eqb}
+use lib.IntN.{ℤ, pos, _-ℤ_}
+use lib.ListN.{length}
+use Rattle.laws.specs.Lists.{keep, many, final, put, upto, top}
+use Rattle.laws.specs.Below.{allTo}
+use Rattle.frame.specs.declared.Message.{Message}
+use Rattle.frame.specs.Message.{msg, isTake, isReturn, counted, stampOf, stamp, by}
+
+-- what a post is started with
+pub record Start : Type 0 where
+  pub posts : ℕ
+  pub own : ℕ
+  pub feeder : ℕ
+  pub places : ℕ
+
+abbrev pub Queue : Type 0
+Queue = List Message
+
+-- the greatest counter
+unfoldable pub clock : Queue → ℕ
+clock q = top (λ m. m .counter) q
+
+-- the last counter of post r, and its last stamp
+unfoldable pub last : ℕ → Queue → ℕ
+last r q = top (λ m. m .counter) (keep (by r) q)
+
+abbrev pub lastStamp : ℕ → Queue → ℕ
+lastStamp r q = stampOf (last r q) r
+
+-- at or below the floor: the last stamp of every other post is at or above it
+unfoldable pub heard : Start → Queue → Message → Bool
+heard st q m = allTo (st .posts) (λ r. eqb r (st .own) || leb (stamp m) (lastStamp r q))
+
+-- the takes and returns that are settled, and those that wait
+unfoldable pub settled : Start → Queue → List Message
+settled st q = keep (λ m. counted m && heard st q m) q
+
+unfoldable pub waiting : Start → Queue → List Message
+waiting st q = keep (λ m. counted m && not (heard st q m)) q
+
+abbrev pub takes : Start → Queue → List Message
+takes st q = keep isTake (settled st q)
+
+-- a take's number: the settled takes up to and including it
+abbrev pub number : Start → Queue → Message → ℕ
+number st q m = upto stamp (takes st q) m
+
+-- numbers up to this are granted: the places and the settled returns
+unfoldable pub room : Start → Queue → ℕ
+room st q = st .places + many isReturn (settled st q)
+
+-- the own takes that are granted
+unfoldable pub grants : Start → Queue → List Message
+grants st q = keep (λ m. by (st .own) m && leb (number st q m) (room st q)) (takes st q)
+
+-- the own last take or return; a return before there is one
+unfoldable pub latest : Start → Queue → Message
+latest st q = final (keep (λ m. by (st .own) m && counted m) q) (msg 2 (st .own) 0)
+
+-- 0 idle, 1 take not yet settled, 2 numbered and waiting, 3 holding
+unfoldable pub phase : Start → Queue → ℕ
+phase st q =
+    let m = latest st q in
+    cond (isTake m) (cond (heard st q m) (cond (leb (number st q m) (room st q)) 3 2) 1) 0
+
+-- the number of the own take once it is settled
+unfoldable pub order : Start → Queue → ℕ
+order st q = cond (isTake (latest st q) && heard st q (latest st q)) (number st q (latest st q)) 0
+
+-- places and settled returns less settled takes
+unfoldable pub value : Start → Queue → ℤ
+value st q = pos (room st q) -ℤ pos (length (takes st q))
+
+-- another post whose last stamp is below the own unsettled take
+unfoldable pub lacks : Start → Queue → ℕ → Bool
+lacks st q r = eqb (phase st q) 1 && (not (eqb r (st .own)) && ltb (lastStamp r q) (stamp (latest st q)))
