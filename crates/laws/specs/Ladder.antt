@@ -1,6 +1,6 @@
 -- A table of refusals: rows of a number and a test, looked through from the top.
 use Prim.Native.Nat.{ℕ}
-use mathlib.Core.Bool.{Bool, cond}
+use mathlib.Core.Bool.{Bool, true, cond, _&&_}
 use mathlib.Core.List.{List, [], _∷_}
 
 pub record Row : Type 0 where
@@ -16,3 +16,8 @@ n when t = record { number = n; test = t }
 abbrev pub refusal : List Row → ℕ
 refusal [] = 0
 refusal (r ∷ rs) = cond (r .test) (r .number) (refusal rs)
+
+-- every test of a row passes
+abbrev pub every : List Bool → Bool
+every [] = true
+every (t ∷ ts) = t && every ts

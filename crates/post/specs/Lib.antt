@@ -1,0 +1,4 @@
+pub mod Record
+pub mod Sound
+pub mod Settle
+pub mod Calls

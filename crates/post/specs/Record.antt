@@ -1,0 +1,64 @@
+-- The post's short record: what its fields say, how it starts, and the record with other messages waiting.
+use mathlib.Core.Bool.{cond}
+use mathlib.Core.List.{List, [], _∷_, _++_}
+use Prim.Native.Nat.{ℕ, zero, suc, _-_, _^_, min}
+use lib.Dec.{eqb}
+use lib.ListN.{length, getD, take, replicate}
+use Rattle.frame.specs.declared.Message.{Message}
+use Rattle.frame.specs.Message.{blank, stampOf}
+use Rattle.post.specs.declared.Post.{Post}
+
+-- the last counter of post q
+abbrev pub lastOf : Post → ℕ → ℕ
+lastOf p q = getD (p .last) q 0
+
+-- the waiting messages
+abbrev pub waitingOf : Post → List Message
+waitingOf p = take (p .waits) (p .slots)
+
+-- the least of f over the posts below n but own; above every stamp where there is none
+unfoldable pub leastTo : ℕ → ℕ → (ℕ → ℕ) → ℕ
+leastTo zero own f = 2 ^ 40
+leastTo (suc n) own f = cond (eqb n own) (leastTo n own f) (min (f n) (leastTo n own f))
+
+-- the floor: the least stamp (last counter, post) over the other posts
+unfoldable pub floor : Post → ℕ
+floor p = leastTo (p .posts) (p .own) (λ q. stampOf (lastOf p q) q)
+
+-- messages in 62 slots, the unused ones zero
+abbrev pub inSlots : List Message → List Message
+inSlots ms = ms ++ replicate (62 - length ms) blank
+
+-- a record as it starts
+unfoldable pub fresh : ℕ → ℕ → ℕ → ℕ → Post
+fresh posts own feeder places = record {
+  posts = posts;
+  own = own;
+  feeder = feeder;
+  places = places;
+  clock = 0;
+  last = replicate 16 0;
+  waits = 0;
+  slots = replicate 62 blank;
+  takes = 0;
+  returns = 0;
+  phase = 0;
+  order = 0;
+}
+
+-- the record with this clock, these last counters, these messages waiting, this phase and this order number
+unfoldable pub remade : Post → ℕ → List ℕ → List Message → ℕ → ℕ → Post
+remade p clock last ms phase order = record {
+  posts = p .posts;
+  own = p .own;
+  feeder = p .feeder;
+  places = p .places;
+  clock = clock;
+  last = last;
+  waits = length ms;
+  slots = inSlots ms;
+  takes = p .takes;
+  returns = p .returns;
+  phase = phase;
+  order = order;
+}

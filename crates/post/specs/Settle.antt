@@ -1,0 +1,52 @@
+-- What is settled leaves the slots in stamp order and is counted.
+use mathlib.Core.Bool.{cond, not, _&&_}
+use mathlib.Core.List.{List, [], _∷_}
+use Prim.Native.Nat.{ℕ, _+_}
+use lib.Dec.{leb, ltb, eqb}
+use lib.ListN.{length, drop}
+use Rattle.laws.specs.Lists.{many}
+use Rattle.frame.specs.declared.Message.{Message}
+use Rattle.frame.specs.Message.{isTake, isReturn, stamp, by}
+use Rattle.post.specs.declared.Post.{Post}
+use Rattle.post.specs.Record.{waitingOf, floor, inSlots}
+
+-- the messages before the first whose stamp is above t
+unfoldable pub upTo : ℕ → List Message → List Message
+upTo t [] = []
+upTo t (m ∷ ms) = cond (ltb t (stamp m)) [] (m ∷ upTo t ms)
+
+-- after n takes: how many takes there are up to and including the own one; 0 where it is not there
+unfoldable pub ownNumber : ℕ → ℕ → List Message → ℕ
+ownNumber own n [] = 0
+ownNumber own n (m ∷ ms) = cond (isTake m) (cond (by own m) (n + 1) (ownNumber own (n + 1) ms)) (ownNumber own n ms)
+
+-- the order number once these are counted
+unfoldable pub orderAfter : Post → List Message → ℕ
+orderAfter p gone = cond (eqb (p .phase) 1) (ownNumber (p .own) (p .takes) gone) (p .order)
+
+-- the phase then: a numbered take is granted as soon as its number is at most the room
+unfoldable pub phaseAfter : ℕ → ℕ → ℕ → ℕ
+phaseAfter phase order room =
+    cond (eqb phase 0) 0 (cond (eqb phase 3) 3 (cond (eqb order 0) 1 (cond (leb order room) 3 2)))
+
+-- the record once the messages that are settled have left
+unfoldable pub settle : Post → Post
+settle p =
+    let gone = upTo (floor p) (waitingOf p) in
+    let left = drop (length gone) (waitingOf p) in
+    let returns = p .returns + many isReturn gone in
+    let order = orderAfter p gone in
+    record {
+      posts = p .posts;
+      own = p .own;
+      feeder = p .feeder;
+      places = p .places;
+      clock = p .clock;
+      last = p .last;
+      waits = length left;
+      slots = inSlots left;
+      takes = p .takes + many isTake gone;
+      returns = returns;
+      phase = phaseAfter (p .phase) order (p .places + returns);
+      order = order;
+    }

@@ -1,0 +1,93 @@
+-- When a record is sound: document 01's rules, one definition each, in its order.
+use mathlib.Core.Bool.{Bool, true, not, cond, _&&_, _||_}
+use mathlib.Core.List.{List, [], _∷_}
+use Prim.Native.Nat.{ℕ, _+_}
+use lib.Dec.{leb, ltb, eqb}
+use lib.ListN.{drop}
+use Rattle.laws.specs.Ladder.{every}
+use Rattle.laws.specs.Lists.{all, many}
+use Rattle.laws.specs.Below.{allTo, sumTo}
+use Rattle.frame.specs.declared.Message.{Message}
+use Rattle.frame.specs.Message.{isTake, isReturn, counted, stamp, by}
+use Rattle.post.specs.declared.Post.{Post}
+use Rattle.post.specs.Record.{lastOf, waitingOf, floor}
+
+-- N is 1 to 16, own number below N, K 1 to 16; feeder is 0 to 255
+unfoldable pub inRange : ℕ → ℕ → ℕ → ℕ → Bool
+inRange posts own feeder places = every (leb 1 posts ∷ leb posts 16 ∷ ltb own posts ∷ leb 1 places ∷ leb places 16 ∷ leb feeder 255 ∷ [])
+
+-- last counters at numbers N and above are 0
+unfoldable pub absentSilent : Post → Bool
+absentSilent p = allTo 16 (λ q. ltb q (p .posts) || eqb (lastOf p q) 0)
+
+-- the clock is at least every last counter
+unfoldable pub clockAbove : Post → Bool
+clockAbove p = allTo 16 (λ q. leb (lastOf p q) (p .clock))
+
+-- a waiting message is a take or return of a sender below N, with a counter from 1 to that sender's last
+unfoldable pub fair : Post → Message → Bool
+fair p m = counted m && (ltb (m .sender) (p .posts) && (leb 1 (m .counter) && leb (m .counter) (lastOf p (m .sender))))
+
+-- each stamp is above the one before it, and the first above t
+unfoldable pub rises : ℕ → List Message → Bool
+rises t [] = true
+rises t (m ∷ ms) = ltb t (stamp m) && rises (stamp m) ms
+
+-- none wait if N = 1
+unfoldable pub noneAlone : Post → Bool
+noneAlone p = not (eqb (p .posts) 1) || eqb (p .waits) 0
+
+-- a slot is zero
+unfoldable pub isBlank : Message → Bool
+isBlank m = eqb (m .kind) 0 && (eqb (m .sender) 0 && eqb (m .counter) 0)
+
+-- at most 4 wait from any other sender
+unfoldable pub few : Post → ℕ → Bool
+few p q = eqb q (p .own) || leb (many (by q) (waitingOf p)) 4
+
+-- the kind of the last message of post q; k where there is none
+unfoldable pub endKind : ℕ → ℕ → List Message → ℕ
+endKind q k [] = k
+endKind q k (m ∷ ms) = endKind q (cond (by q m) (m .kind) k) ms
+
+-- of its own, phase 0 has at most one return, phase 1 exactly one take with at most one return, before it; phases 2 and 3 have none
+unfoldable pub ownFits : ℕ → ℕ → ℕ → ℕ → Bool
+ownFits phase takes returns end =
+    cond (eqb phase 0) (eqb takes 0 && leb returns 1)
+    (cond (eqb phase 1) (eqb takes 1 && (leb returns 1 && eqb end 1))
+    (eqb takes 0 && eqb returns 0))
+
+unfoldable pub ownFew : Post → Bool
+ownFew p =
+    let ms = waitingOf p in
+    ownFits (p .phase) (many (λ m. by (p .own) m && isTake m) ms) (many (λ m. by (p .own) m && isReturn m) ms) (endKind (p .own) 0 ms)
+
+-- settled takes + settled returns + waiting messages are at most the sum of the last counters
+unfoldable pub sumFits : Post → Bool
+sumFits p = leb (p .takes + p .returns + p .waits) (sumTo 16 (lastOf p))
+
+-- the order number is 0 in phases 0 and 1, and from 1 to the settled takes in 2 and 3; in 3 it is at most K + settled returns, in 2 it is more
+unfoldable pub orderFits : ℕ → ℕ → ℕ → ℕ → Bool
+orderFits phase order takes room =
+    cond (leb phase 1) (eqb order 0)
+    (leb 1 order && (leb order takes && cond (eqb phase 3) (leb order room) (ltb room order)))
+
+unfoldable pub rules : Post → List Bool
+rules p =
+    inRange (p .posts) (p .own) (p .feeder) (p .places)
+    ∷ leb (p .phase) 3
+    ∷ leb (p .waits) 62
+    ∷ absentSilent p
+    ∷ clockAbove p
+    ∷ all (fair p) (waitingOf p)
+    ∷ rises (floor p) (waitingOf p)
+    ∷ noneAlone p
+    ∷ all isBlank (drop (p .waits) (p .slots))
+    ∷ allTo (p .posts) (few p)
+    ∷ ownFew p
+    ∷ sumFits p
+    ∷ orderFits (p .phase) (p .order) (p .takes) (p .places + p .returns)
+    ∷ []
+
+unfoldable pub sound : Post → Bool
+sound p = every (rules p)
