@@ -1,3 +1,6 @@
 pub mod Tests
 pub mod Ladders
 pub mod BigLaws
+pub mod BelowLaws
+pub mod ListLaws
+pub mod RisingLaws
