@@ -4,3 +4,4 @@ pub mod BigLaws
 pub mod BelowLaws
 pub mod ListLaws
 pub mod RisingLaws
+pub mod ScanLaws

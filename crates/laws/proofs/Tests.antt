@@ -26,6 +26,10 @@ pub or-l : (a b : Bool) → T a → T (a || b)
 or-l true b t = tt
 or-l false b t = absurd t
 
+pub or-e : (a b : Bool) → T (a || b) → T a ⊎ T b
+or-e true b t = inl tt
+or-e false b t = inr t
+
 pub or-r : (a b : Bool) → T b → T (a || b)
 or-r true b t = tt
 or-r false b t = t

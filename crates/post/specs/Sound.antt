@@ -3,7 +3,7 @@ use mathlib.Core.Bool.{Bool, true, not, cond, _&&_, _||_}
 use mathlib.Core.List.{List, [], _∷_}
 use Prim.Native.Nat.{ℕ, _+_}
 use lib.Dec.{leb, ltb, eqb}
-use lib.ListN.{drop}
+use lib.ListN.{getD, drop}
 use Rattle.laws.specs.Ladder.{every}
 use Rattle.laws.specs.Lists.{all, many}
 use Rattle.laws.specs.Below.{allTo, sumTo}
@@ -24,9 +24,9 @@ absentSilent p = allTo 16 (λ q. ltb q (p .posts) || eqb (lastOf p q) 0)
 unfoldable pub clockAbove : Post → Bool
 clockAbove p = allTo 16 (λ q. leb (lastOf p q) (p .clock))
 
--- a waiting message is a take or return of a sender below N, with a counter from 1 to that sender's last
-unfoldable pub fair : Post → Message → Bool
-fair p m = counted m && (ltb (m .sender) (p .posts) && (leb 1 (m .counter) && leb (m .counter) (lastOf p (m .sender))))
+-- a waiting message is of a sender below N, a take or return, with a counter from 1 to that sender's last
+unfoldable pub fair : ℕ → List ℕ → Message → Bool
+fair posts last m = ltb (m .sender) posts && (counted m && (leb 1 (m .counter) && leb (m .counter) (getD last (m .sender) 0)))
 
 -- each stamp is above the one before it, and the first above t
 unfoldable pub rises : ℕ → List Message → Bool
@@ -72,22 +72,21 @@ orderFits phase order takes room =
     cond (leb phase 1) (eqb order 0)
     (leb 1 order && (leb order takes && cond (eqb phase 3) (leb order room) (ltb room order)))
 
-unfoldable pub rules : Post → List Bool
-rules p =
-    inRange (p .posts) (p .own) (p .feeder) (p .places)
-    ∷ leb (p .phase) 3
-    ∷ leb (p .waits) 62
-    ∷ absentSilent p
-    ∷ clockAbove p
-    ∷ all (fair p) (waitingOf p)
+unfoldable pub numberRules : Post → List Bool
+numberRules p = inRange (p .posts) (p .own) (p .feeder) (p .places) ∷ leb (p .phase) 3 ∷ leb (p .waits) 62 ∷ absentSilent p ∷ clockAbove p ∷ []
+
+unfoldable pub slotRules : Post → List Bool
+slotRules p =
+    all (fair (p .posts) (p .last)) (waitingOf p)
     ∷ rises (floor p) (waitingOf p)
     ∷ noneAlone p
     ∷ all isBlank (drop (p .waits) (p .slots))
     ∷ allTo (p .posts) (few p)
     ∷ ownFew p
-    ∷ sumFits p
-    ∷ orderFits (p .phase) (p .order) (p .takes) (p .places + p .returns)
     ∷ []
 
+unfoldable pub countRules : Post → List Bool
+countRules p = sumFits p ∷ orderFits (p .phase) (p .order) (p .takes) (p .places + p .returns) ∷ []
+
 unfoldable pub sound : Post → Bool
-sound p = every (rules p)
+sound p = every (numberRules p) && (every (slotRules p) && every (countRules p))

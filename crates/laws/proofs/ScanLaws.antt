@@ -1,0 +1,49 @@
+-- Loops: what one turn over a list, or over the numbers below n, does to a definition. Assumes nothing.
+use mathlib.Core.Path.{_≡_, refl, ap, _∙_, sym}
+use mathlib.Core.Logic.{_⊎_, inl, inr}
+use mathlib.Core.Bool.{Bool, true, false, cond, _&&_, and-false}
+use mathlib.Core.List.{List, [], _∷_}
+use Prim.Native.Nat.{ℕ, zero, suc, _+_, _≤_, _<_}
+use native.Mathlib.Omega.{arith}
+use native.Mathlib.Numerals.{add-one}
+use native.Mathlib.Nat.{eq-or-lt-of-le, le-of-suc-le-suc}
+use lib.Dec.{T}
+use lib.ListN.{length, getD}
+use lib.Seq.{slice, slice-cons, slice-empty}
+use Rattle.laws.specs.Lists.{In, all}
+use Rattle.laws.specs.Below.{allTo, sumTo}
+use Rattle.laws.proofs.Tests.{and-l, and-r}
+
+module _ {A : Type 0} where
+  -- where a test passes of all, it passes of each
+  pub all-at : (f : A → Bool) (l : List A) → T (all f l) → (a : A) → In a l → T (f a)
+  unfolding all
+  all-at f (x ∷ xs) t a (inl e) = rw e (and-l (f x) (all f xs) t)
+  all-at f (x ∷ xs) t a (inr i) = all-at f xs (and-r (f x) (all f xs) t) a i
+  all-at f [] t a i = absurd i
+
+  -- the rest of the first n from i on: one and those after it, as the code counts; and nothing at the end
+  pub next : (l : List A) (i n : ℕ) (d : A) → i < n → n ≤ length l → slice i n l ≡ getD l i d ∷ slice (i + 1) n l
+  next l i n d h k = slice-cons i n l d h k ∙ ap (λ (j : ℕ). getD l i d ∷ slice j n l) (sym (add-one i))
+
+  pub over : (l : List A) (i n : ℕ) → i ≤ n → n ≤ i → slice i n l ≡ []
+  over l i n h k = ap (λ (j : ℕ). slice j n l) (let e : i ≡ n = omega arith in e) ∙ slice-empty n l
+
+-- a test that passes below n and at n passes below n + 1
+pub allTo-more : (n : ℕ) (f : ℕ → Bool) → allTo n f ≡ true → f n ≡ true → allTo (n + 1) f ≡ true
+unfolding allTo
+allTo-more n f h e = ap (λ (x : ℕ). allTo x f) (add-one n) ∙ rw (e, h)
+
+-- one that fails fails all
+pub allTo-fails : (n : ℕ) (f : ℕ → Bool) (i : ℕ) → i < n → f i ≡ false → allTo n f ≡ false
+unfolding allTo
+allTo-fails zero f i h e = absurd (omega arith)
+allTo-fails (suc n) f i h e = go (eq-or-lt-of-le (le-of-suc-le-suc h)) (λ l. allTo-fails n f i l e)
+  where
+    go : (i ≡ n) ⊎ (i < n) → (i < n → allTo n f ≡ false) → f n && allTo n f ≡ false
+    go (inl d) r = rw (← d, e)
+    go (inr l) r = rw (r l) (and-false (f n))
+
+pub sumTo-more : (n : ℕ) (f : ℕ → ℕ) → sumTo (n + 1) f ≡ f n + sumTo n f
+unfolding sumTo
+sumTo-more n f = ap (λ (x : ℕ). sumTo x f) (add-one n)
