@@ -5,3 +5,4 @@ pub mod BelowLaws
 pub mod ListLaws
 pub mod RisingLaws
 pub mod ScanLaws
+pub mod BitLaws

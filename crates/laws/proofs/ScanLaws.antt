@@ -34,6 +34,9 @@ pub allTo-more : (n : ℕ) (f : ℕ → Bool) → allTo n f ≡ true → f n ≡
 unfolding allTo
 allTo-more n f h e = ap (λ (x : ℕ). allTo x f) (add-one n) ∙ rw (e, h)
 
+pub allTo-end : (i n : ℕ) (f : ℕ → Bool) → i ≤ n → n ≤ i → allTo i f ≡ true → true ≡ allTo n f
+allTo-end i n f h k e = sym e ∙ ap (λ (x : ℕ). allTo x f) (let d : i ≡ n = omega arith in d)
+
 -- one that fails fails all
 pub allTo-fails : (n : ℕ) (f : ℕ → Bool) (i : ℕ) → i < n → f i ≡ false → allTo n f ≡ false
 unfolding allTo
