@@ -45,7 +45,7 @@ pub one-yes : (b : Bool) → T b → one? b ≡ 1
 one-yes true t = refl
 one-yes false t = absurd t
 
-one-eqb : (m n : ℕ) → (m ≡ n → ⊥) → one? (eqb m n) ≡ 0
+pub one-eqb : (m n : ℕ) → (m ≡ n → ⊥) → one? (eqb m n) ≡ 0
 one-eqb m n d = go (eqb m n) (λ t. d (eqb→eq m n t))
   where
     go : (b : Bool) → (T b → ⊥) → one? b ≡ 0

@@ -1,1 +1,2 @@
 pub mod SoundFacts
+pub mod Looking
