@@ -50,24 +50,37 @@ module _ (st : Start) (q : Queue) where
             (leb-false lastCounter (clock q) (c .0), leb-false lastCounter (m .counter) (c .1));
       }
 
+  -- each call, by what it may leave
+  pub took-next : (lent : List ℕ) (P : Queue → Type 0) → P q → (T (eqb (phase st q) 0) → clock q < lastCounter → P (say st 1 q))
+      → P (onQueue st q (take-call lent) .next)
+  unfolding onQueue send takeRows
+  took-next lent P none some =
+      let rows = takeRows st q (length lent) in
+      cond-both {A = Answer Queue} (λ a. P (a .next)) (eqb (refusal rows) 0) _ _
+      (λ y. let r = quiet rows tt (eqb→eq (refusal rows) 0 y) in some (passed (eqb (phase st q) 0) (r .1 .0)) (leb-false lastCounter (clock q) (r .1 .1 .0)))
+      (λ n. none)
+
+  pub returned-next : (lent : List ℕ) (P : Queue → Type 0) → P q → (T (eqb (phase st q) 3) → clock q < lastCounter → P (say st 2 q))
+      → P (onQueue st q (return-call lent) .next)
+  unfolding onQueue send returnRows
+  returned-next lent P none some =
+      let rows = returnRows st q (length lent) in
+      cond-both {A = Answer Queue} (λ a. P (a .next)) (eqb (refusal rows) 0) _ _
+      (λ y. let r = quiet rows tt (eqb→eq (refusal rows) 0 y) in some (passed (eqb (phase st q) 3) (r .1 .0)) (leb-false lastCounter (clock q) (r .1 .1 .0)))
+      (λ n. none)
+
   pub received-next : (s lent : List ℕ) (m : Message) → fieldsOf s .message ≡ m → (P : Queue → Type 0) → P q → (New st q m → P (accept st q m))
       → P (onQueue st q (receive-call s lent) .next)
   unfolding onQueue received
-  received-next s lent m e P none new =
+  received-next s lent m e P none some =
       cond-both {A = Answer Queue} (λ a. P (a .next)) (eqb (refusal (receiveRows st q s (length lent))) 0) _ _
-      (λ y. subst (λ (x : Message). (New st q x → P (accept st q x)) → P (accept st q (fieldsOf s .message))) e (λ f. f (not-refused s (length lent) (eqb→eq _ 0 y))) new)
+      (λ y. subst (λ (x : Message). (New st q x → P (accept st q x)) → P (accept st q (fieldsOf s .message))) e (λ f. f (not-refused s (length lent) (eqb→eq _ 0 y))) some)
       (λ n. none)
 
   pub change : (c : Call) → Change st q (onQueue st q c .next)
-  unfolding onQueue send takeRows returnRows
-  change (take-call lent) =
-      cond-both {A = Answer Queue} (λ a. Change st q (a .next)) (eqb (refusal (takeRows st q (length lent))) 0) _ _
-      (λ y. let r = quiet (takeRows st q (length lent)) tt (eqb→eq _ 0 y) in took (passed (eqb (phase st q) 0) (r .1 .0)) (leb-false _ _ (r .1 .1 .0)))
-      (λ n. unchanged)
-  change (return-call lent) =
-      cond-both {A = Answer Queue} (λ a. Change st q (a .next)) (eqb (refusal (returnRows st q (length lent))) 0) _ _
-      (λ y. let r = quiet (returnRows st q (length lent)) tt (eqb→eq _ 0 y) in gave-back (passed (eqb (phase st q) 3) (r .1 .0)) (leb-false _ _ (r .1 .1 .0)))
-      (λ n. unchanged)
+  unfolding onQueue
+  change (take-call lent) = took-next lent (Change st q) unchanged took
+  change (return-call lent) = returned-next lent (Change st q) unchanged gave-back
   change (receive-call s lent) = received-next s lent (fieldsOf s .message) refl (Change st q) unchanged (accepted (fieldsOf s .message))
   change value-call = unchanged
   change missing-call = unchanged

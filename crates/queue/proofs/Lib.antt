@@ -8,3 +8,5 @@ pub mod Parts
 pub mod Grow
 pub mod Granted
 pub mod Marks
+pub mod Holding
+pub mod Demand3

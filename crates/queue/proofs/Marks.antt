@@ -39,19 +39,19 @@ pub record Step (st : Start) (q q′ : Queue) : Type 0 where
 
 -- ---- what the latest is after a call
 
-in-say : (st : Start) (kind : ℕ) (q : Queue) (m : Message) → In m (say st kind q) → (m ≡ saying st kind q) ⊎ In m q
+pub in-say : (st : Start) (kind : ℕ) (q : Queue) (m : Message) → In m (say st kind q) → (m ≡ saying st kind q) ⊎ In m q
 unfolding say
 in-say st kind q m i = in-put stamp (saying st kind q) m q i
 
 module _ (st : Start) (q : Queue) (g : Good st q) where
-  latest-said : (kind : ℕ) → T (counted (msg kind (st .own) 0)) → latest st (say st kind q) ≡ saying st kind q
+  pub latest-said : (kind : ℕ) → T (counted (msg kind (st .own) 0)) → latest st (say st kind q) ≡ saying st kind q
   unfolding latest saying
   latest-said kind c =
       ap (λ (l : List Message). final l (msg 2 (st .own) 0))
       (keep-say-last st q (ownCounted st) (g .sorted) kind (yes-and (eqb (st .own) (st .own)) _ (eqb-refl (st .own)) c))
       ∙ final-snoc (keep (ownCounted st) q) (saying st kind q) (msg 2 (st .own) 0)
 
-  latest-accepted : (m : Message) → New st q m → latest st (accept st q m) ≡ latest st q
+  pub latest-accepted : (m : Message) → New st q m → latest st (accept st q m) ≡ latest st q
   unfolding latest saying
   latest-accepted m w =
       let a = saying st 3 (put stamp m q) in
