@@ -6,7 +6,8 @@ use mathlib.Core.List.{List, [], _∷_, _++_, append-assoc, append-nil}
 use Prim.Native.Nat.{ℕ, _+_, _≤_, _<_}
 use native.Mathlib.Omega.{arith}
 use lib.Dec.{T, T-not, eqb}
-use lib.ListN.{length, length-append}
+use lib.ListN.{length, drop, length-append}
+use lib.Seq.{drop-append-seam}
 use lib.Ieee.Bits.{is-true, is-false}
 use Rattle.laws.specs.Below.{sumTo, one?}
 use Rattle.laws.specs.Lists.{In, keep, many, final, Begins}
@@ -116,6 +117,9 @@ module _ {A : Type 0} where
 
   pub begins-in : (a : A) (s t : List A) → Begins s t → In a s → In a t
   begins-in a s t b m = subst (In a) (b .1) (in-left a s (b .0) m)
+
+  pub begins-drop : (s t : List A) → Begins s t → s ++ drop (length s) t ≡ t
+  begins-drop s t b = subst (λ (u : List A). s ++ drop (length s) u ≡ u) (b .1) (ap (λ (r : List A). s ++ r) (drop-append-seam s (b .0)))
 
   -- ---- the last
 

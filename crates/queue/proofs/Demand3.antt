@@ -5,8 +5,8 @@ use mathlib.Core.List.{[]}
 use Rattle.laws.specs.Lists.{keep}
 use Rattle.queue.specs.Queue.{settled, grants}
 use Rattle.queue.specs.Calls.{queueAfter}
-use Rattle.queue.specs.Feeder.{Line, start, Feeder}
-use Rattle.queue.specs.Demand3.{Faithful, Demand3, Strong, Marks}
+use Rattle.queue.specs.Feeder.{Line, start, Feeder, fresh, run}
+use Rattle.queue.specs.Demand3.{Faithful, Demand3, Strong, Runs, Marks}
 use Rattle.queue.proofs.Good.{good-empty}
 use Rattle.queue.proofs.Changes.{after-calls}
 use Rattle.queue.proofs.Agree.{Sound, one-order}
@@ -14,6 +14,7 @@ use Rattle.queue.proofs.Places.{never-more}
 use Rattle.queue.proofs.Cleared.{all-settled, exactly}
 use Rattle.queue.proofs.Marks.{grants-marked}
 use Rattle.queue.proofs.Holding.{Kept, kept-change, kept-empty, never-more-hold}
+use Rattle.queue.proofs.Runs.{ran-fresh, ran}
 
 demand3 : (L : Line) (s : Feeder) → ((p : ℕ) → p < L .posts → Kept (start L p) (s p)) → Faithful L s → Demand3 L s
 demand3 L s k f =
@@ -32,6 +33,9 @@ strong L few s r f =
     let st = start L p in
     subst (Kept st) (sym (r p l .1)) (after-calls st (Kept st) (kept-change st) (r p l .0) [] (kept-empty st (record { few = few; mine = l }))))
     f
+
+pub runs : Runs
+runs L few f acts = let r = ran L f acts fresh (ran-fresh L few) in demand3 L (run L fresh acts) (r .kept) (r .faithful)
 
 pub marks : Marks
 unfolding grants settled keep

@@ -9,4 +9,5 @@ pub mod Grow
 pub mod Granted
 pub mod Marks
 pub mod Holding
+pub mod Runs
 pub mod Demand3
