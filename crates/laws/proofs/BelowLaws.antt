@@ -1,6 +1,6 @@
 -- Tests and sums over the numbers below n. Assumes nothing.
-use mathlib.Core.Path.{_≡_, refl, ap, _∙_}
-use mathlib.Core.Bool.{Bool, true, false, _&&_}
+use mathlib.Core.Path.{_≡_, refl}
+use mathlib.Core.Bool.{Bool, true, false}
 use Prim.Native.Nat.{ℕ, zero, suc, _+_, _≤_, _<_}
 use native.Mathlib.Omega.{arith}
 use lib.Dec.{T, eqb, eqb→eq}
@@ -41,7 +41,7 @@ unfolding sumTo
 sumTo-zero zero = refl
 sumTo-zero (suc n) = let b = sumTo-zero n in omega arith
 
-pub one-yes : (b : Bool) → T b → one? b ≡ 1
+one-yes : (b : Bool) → T b → one? b ≡ 1
 one-yes true t = refl
 one-yes false t = absurd t
 

@@ -150,7 +150,7 @@ module _ {A : Type 0} (who : A → ℕ) (n : ℕ) (g : A → Bool) where
   parts [] h = sumTo-zero n
   parts (x ∷ xs) h =
       let a = sumTo-cong n (λ p. many g (keep (part p) (x ∷ xs))) (λ p. one? (part p x && g x) + many g (keep (part p) xs))
-          (λ p l. rw (keep-keep g (part p) (x ∷ xs), keep-keep g (part p) xs) (many-cons (λ a. part p a && g a) x xs)) in
+      (λ p l. rw (keep-keep g (part p) (x ∷ xs), keep-keep g (part p) xs) (many-cons (λ a. part p a && g a) x xs)) in
       let b = sumTo-add n (λ p. one? (part p x && g x)) (λ p. many g (keep (part p) xs)) in
       let c = parts xs (λ a m. h a (inr m)) in
       let d = first x (h x (inl refl)) in

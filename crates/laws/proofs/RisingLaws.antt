@@ -1,9 +1,9 @@
 -- Lists that rise by a number: put in, counted up to a member, compared; and the greatest number. Assumes nothing.
 use mathlib.Core.Path.{_≡_, refl, sym, ap, _∙_, subst}
 use mathlib.Core.Logic.{_⊎_, inl, inr, ⊎-elim}
-use mathlib.Core.Bool.{Bool, true, false, not, cond}
+use mathlib.Core.Bool.{Bool, true, false, not}
 use mathlib.Core.List.{List, [], _∷_, _++_, append-nil}
-use Prim.Native.Nat.{ℕ, zero, suc, _+_, _≤_, _<_, max}
+use Prim.Native.Nat.{ℕ, zero, suc, _≤_, _<_}
 use native.Mathlib.Omega.{arith}
 use lib.Dec.{T, leb, ltb, not-T, leb→le, le→leb, ltb→lt, nltb→le}
 use lib.ListN.{length}
@@ -178,18 +178,18 @@ module _ {A : Type 0} (key : A → ℕ) where
   upto-few (x ∷ xs) zero r =
       let f : A → Bool = λ a. leb (upto key (x ∷ xs) a) 0 in
       let e = ap length (keep-none f (x ∷ xs) (λ a m. not-T (f a) (λ y.
-          let p = leb→le (upto key (x ∷ xs) a) 0 y in
-          let q = upto-head x xs a (⊎-elim (λ d. let w = ap key d in omega arith) (λ j. let w = r .0 a j in omega arith) m) in
-          omega arith))) in
+      let p = leb→le (upto key (x ∷ xs) a) 0 y in
+      let q = upto-head x xs a (⊎-elim (λ d. let w = ap key d in omega arith) (λ j. let w = r .0 a j in omega arith) m) in
+      omega arith))) in
       omega arith
   upto-few (x ∷ xs) (suc n) r =
       let f : A → Bool = λ a. leb (upto key (x ∷ xs) a) (suc n) in
       let a = many-cons f x xs in
       let b = upto-few xs n (r .1) in
       let c = many-le f (λ a. leb (upto key xs a) n) xs (λ a m y.
-          let p = leb→le (upto key (x ∷ xs) a) (suc n) y in
-          let q = upto-head x xs a (let w = r .0 a m in omega arith) in
-          le→leb (upto key xs a) n (omega arith)) in
+      let p = leb→le (upto key (x ∷ xs) a) (suc n) y in
+      let q = upto-head x xs a (let w = r .0 a m in omega arith) in
+      le→leb (upto key xs a) n (omega arith)) in
       let d = one-most (f x) in
       omega arith
 

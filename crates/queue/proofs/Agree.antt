@@ -5,7 +5,7 @@ use mathlib.Core.List.{_++_}
 use Prim.Native.Nat.{ℕ, _≤_, _<_}
 use native.Mathlib.Omega.{arith}
 use lib.Dec.{T, eqb, eqb→eq, eqb-refl}
-use Rattle.laws.specs.Lists.{In, keep, Begins, Rising}
+use Rattle.laws.specs.Lists.{In, Begins, Rising}
 use Rattle.laws.proofs.Tests.{test, neqb→ne}
 use Rattle.laws.proofs.ListLaws.{in-append, in-keep, keep-in, begins-in}
 use Rattle.laws.proofs.RisingLaws.{rising-seam, rising-keep, one-begins, top-lt}
@@ -46,9 +46,9 @@ module _ (L : Line) (s : Feeder) (w : Sound L s) where
       (λ x. absurd (
       let r : Rising stamp (had s p q ++ b .0) = subst (Rising stamp) (sym (b .1)) (rising-keep stamp (by p) (s p) (g .rising)) in
       let t = top-lt (λ a. a .counter) (had s p q) (m .counter) (g .proper m i .counter) (λ a y.
-          let u = rising-seam stamp (had s p q) (b .0) r a m y x in
-          let v = eqb→eq (a .sender) p (keep-in (by p) a (s q) y .1) in
-          omega arith) in
+      let u = rising-seam stamp (had s p q) (b .0) r a m y x in
+      let v = eqb→eq (a .sender) p (keep-in (by p) a (s q) y .1) in
+      omega arith) in
       omega arith))
       (in-append m (had s p q) (b .0) (subst (In m) (sym (b .1)) (in-keep (by p) m (s p) i (eqb-refl p))))
 

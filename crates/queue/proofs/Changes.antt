@@ -1,6 +1,6 @@
 -- What a call does to a queue: nothing, an own take or return, or a new message accepted. From here on no byte and no row is looked at.
 -- Assumes nothing.
-use mathlib.Core.Path.{_≡_, refl, sym, ap, subst}
+use mathlib.Core.Path.{_≡_, refl, subst}
 use mathlib.Core.Bool.{Bool, true, false, not, _&&_, _||_}
 use mathlib.Mathlib.Data.Bool.Basic.{or-eq-false-eq-eq-false-and-eq-false}
 use mathlib.Core.List.{List, [], _∷_}
@@ -10,7 +10,7 @@ use lib.Dec.{T, leb, eqb, eqb→eq}
 use lib.ListN.{length}
 use denote.Floats.{passes}
 use borrow.Author.Tests.{leb-false, eqb-false, not-false}
-use Rattle.laws.specs.Ladder.{Row, refusal}
+use Rattle.laws.specs.Ladder.{refusal}
 use Rattle.laws.proofs.Tests.{cond-both}
 use Rattle.laws.proofs.Ladders.{quiet}
 use Rattle.frame.specs.declared.Message.{Message}
@@ -18,7 +18,7 @@ use Rattle.frame.specs.Message.{known, lastCounter}
 use Rattle.frame.specs.Frame.{fieldsOf, formRows}
 use Rattle.queue.specs.Queue.{Start, Queue, clock, last, phase}
 use Rattle.queue.specs.Calls.{Answer, Call, take-call, return-call, receive-call, value-call, missing-call, say, acks, accept, takeRows, returnRows, fromRows, receiveRows, send, received, onQueue, queueAfter}
-use Rattle.queue.proofs.Good.{Fit, Proper, New, Good, good-empty, good-say, good-accept}
+use Rattle.queue.proofs.Good.{New, Good, good-say, good-accept}
 
 pub data Change (st : Start) (q : Queue) : Queue → Type 0 where
   unchanged : Change st q q

@@ -9,7 +9,6 @@ use native.Mathlib.Omega.{arith}
 use lib.Dec.{T, leb, eqb, leb→le, le→leb, eqb→eq, eqb-refl}
 use lib.ListN.{length}
 use mir.Facts.{yes-and}
-use Rattle.laws.specs.Below.{sumTo}
 use Rattle.laws.specs.Lists.{In, keep, many, upto}
 use Rattle.laws.proofs.Tests.{test, and-l, and-r, or-r, same-test, neqb→ne}
 use Rattle.laws.proofs.BelowLaws.{sumTo-cong}
@@ -64,7 +63,7 @@ module _ (L : Line) (s : Feeder) (w : Sound L s) (clear : Cleared L s) where
       let c = ap (many isReturn) (all-settled p p lp lp) in
       let d = ap length (keep-keep isReturn counted (s p)) in
       let e = ap length (keep-cong (λ m. counted m && isReturn m) isReturn (s p) (λ m i.
-          same-test (counted m && isReturn m) (isReturn m) (and-r (counted m) (isReturn m)) (λ t. yes-and (counted m) _ (or-r (isTake m) (isReturn m) t) t))) in
+      same-test (counted m && isReturn m) (isReturn m) (and-r (counted m) (isReturn m)) (λ t. yes-and (counted m) _ (or-r (isTake m) (isReturn m) t) t))) in
       omega arith
 
   pub exactly : (p q : ℕ) → p < L .posts → q < L .posts → (t : Message)

@@ -1,10 +1,9 @@
 -- Demand 3 over full queues, and that the granted takes are the marks: the proofs of `specs/Demand3`. Assumes nothing.
 use mathlib.Core.Path.{sym, subst}
-use Prim.Native.Nat.{ℕ, _≤_, _<_}
+use Prim.Native.Nat.{ℕ, _<_}
 use mathlib.Core.List.{[]}
 use Rattle.laws.specs.Lists.{keep}
 use Rattle.queue.specs.Queue.{settled, grants}
-use Rattle.queue.specs.Calls.{queueAfter}
 use Rattle.queue.specs.Feeder.{Line, start, Feeder, fresh, run}
 use Rattle.queue.specs.Demand3.{Faithful, Demand3, Strong, Runs, Marks}
 use Rattle.queue.proofs.Good.{good-empty}

@@ -1,15 +1,14 @@
 -- A post's granted takes are as many as its returns, and one more while it holds. So never more posts hold than there are places.
 -- Assumes nothing.
-use mathlib.Core.Path.{_≡_, refl, sym, ap, _∙_, subst}
-use mathlib.Core.Logic.{inr}
+use mathlib.Core.Path.{_≡_, refl, sym, ap, subst}
 use mathlib.Core.Bool.{Bool, true, false, not, cond, _&&_}
-use mathlib.Core.List.{List, [], _∷_, _++_}
+use mathlib.Core.List.{[], _∷_}
 use Prim.Native.Nat.{ℕ, _+_, _≤_, _<_}
 use native.Mathlib.Omega.{arith}
-use lib.Dec.{T, eqb, T-not, not-T, eqb→eq, eqb-refl}
+use lib.Dec.{T, not-T, eqb→eq, eqb-refl}
 use lib.ListN.{length, length-append}
 use mir.Facts.{yes-and}
-use Rattle.laws.specs.Below.{sumTo, one?}
+use Rattle.laws.specs.Below.{one?}
 use Rattle.laws.specs.Lists.{In, keep, many, final, put}
 use Rattle.laws.proofs.Tests.{and-l, and-r}
 use Rattle.laws.proofs.BelowLaws.{sumTo-cong, sumTo-add}
@@ -17,10 +16,10 @@ use Rattle.laws.proofs.ListLaws.{keep-keep}
 use Rattle.frame.specs.declared.Message.{Message}
 use Rattle.frame.specs.Message.{isTake, isReturn, stamp, by}
 use Rattle.queue.specs.Queue.{Start, Queue, settled, grants, latest, phase}
-use Rattle.queue.specs.Calls.{Call, saying, say, accept, grantCame, queueAfter}
+use Rattle.queue.specs.Calls.{saying, grantCame}
 use Rattle.queue.specs.Feeder.{Line, start, Feeder, sent, returnsSent, granted, holding}
 use Rattle.queue.proofs.Good.{Fit, Good, good-empty}
-use Rattle.queue.proofs.Changes.{Change, unchanged, took, gave-back, accepted, after-calls, good-change}
+use Rattle.queue.proofs.Changes.{Change, unchanged, took, gave-back, accepted, good-change}
 use Rattle.queue.proofs.Parts.{keep-say-no, keep-say-last, keep-accept-no}
 use Rattle.queue.proofs.Grow.{later}
 use Rattle.queue.proofs.Granted.{grants-in, grants-grow, holding-latest, latest-holding}
@@ -113,8 +112,8 @@ unfolding granted returnsSent holding
 never-more-hold L s h le =
     let f : ℕ → ℕ = λ p. many isReturn (sent s p) in
     let a = sumTo-cong (L .posts) (λ p. length (grants (start L p) (s p))) (λ p. f p + one? (holds (start L p) (s p))) (λ p l.
-        let e = ap length (keep-keep isReturn (by p) (s p)) in
-        let b = h p l in
-        omega arith) in
+    let e = ap length (keep-keep isReturn (by p) (s p)) in
+    let b = h p l in
+    omega arith) in
     let b = sumTo-add (L .posts) f (λ p. one? (holds (start L p) (s p))) in
     omega arith

@@ -3,13 +3,13 @@ use mathlib.Core.Path.{_≡_, refl, sym, ap, _∙_, subst}
 use mathlib.Core.Logic.{_⊎_, inl, inr, ⊎-elim, _↔_}
 use mathlib.Core.Bool.{Bool, true, false, not, cond, _&&_}
 use mathlib.Core.List.{List, [], _∷_, _++_, append-assoc, append-nil}
-use Prim.Native.Nat.{ℕ, _≤_, _<_}
+use Prim.Native.Nat.{ℕ, _<_}
 use native.Mathlib.Omega.{arith}
 use lib.Dec.{T, eqb, T-not, not-T, eqb→eq, eqb-refl}
 use lib.ListN.{length}
 use mir.Facts.{yes-and}
 use Rattle.laws.specs.Ladder.{Row, refusal}
-use Rattle.laws.specs.Lists.{In, keep, final, Rising, put}
+use Rattle.laws.specs.Lists.{In, keep, final, put}
 use Rattle.laws.proofs.Tests.{test, cond-both, and-l, and-r, or-l}
 use Rattle.laws.proofs.ListLaws.{in-left, in-right, in-append, final-snoc}
 use Rattle.laws.proofs.RisingLaws.{rising-unique, rising-same, rising-snoc, in-put}
@@ -66,7 +66,7 @@ module _ (st : Start) (q : Queue) (g : Good st q) where
   old-take m w x i o y =
       let p = put stamp m q in
       let came : In x p → In x q =
-          λ j. ⊎-elim (λ d. absurd (w .other (ap (λ (z : Message). z .sender) (sym d) ∙ eqb→eq (x .sender) (st .own) o))) (λ k. k) (in-put stamp m x q j) in
+      λ j. ⊎-elim (λ d. absurd (w .other (ap (λ (z : Message). z .sender) (sym d) ∙ eqb→eq (x .sender) (st .own) o))) (λ k. k) (in-put stamp m x q j) in
       cond-both (λ (l : Queue). In x l → In x q) (acks m) (say st 3 p) p
       (λ c j. ⊎-elim (λ d. absurd (subst (λ (z : Message). T (isTake z)) d y)) came (in-say st 3 p x j))
       (λ c. came) i
@@ -130,7 +130,7 @@ module _ (st : Start) (q q′ : Queue) (l : Later st q q′) (c : Step st q q′
       let le = latest-most st q′ b (l .after) (g .here) (g .own) (or-l (isTake b) (isReturn b) (g .take)) in
       let z = grants-in st q′ (latest st q′) (holding-latest st q′ y) .here in
       let ne : stamp b ≡ stamp (latest st q′) → ⊥ =
-          λ e. T-not (holds st q) n (c .held y .1 (subst (λ (x : Message). In x (grants st q)) (rising-unique stamp q′ b (latest st q′) (l .after) (g .here) z e) i)) in
+      λ e. T-not (holds st q) n (c .held y .1 (subst (λ (x : Message). In x (grants st q)) (rising-unique stamp q′ b (latest st q′) (l .after) (g .here) z e) i)) in
       omega arith
 
   -- what is granted grows by what is marked

@@ -1,10 +1,10 @@
 -- What a call does to what a test keeps of a queue. Assumes nothing.
-use mathlib.Core.Path.{_≡_, refl, sym, ap, _∙_}
+use mathlib.Core.Path.{_≡_, sym, _∙_}
 use mathlib.Core.Bool.{Bool, not}
-use mathlib.Core.List.{List, [], _∷_, _++_}
-use Prim.Native.Nat.{ℕ, _<_}
+use mathlib.Core.List.{[], _∷_, _++_}
+use Prim.Native.Nat.{ℕ}
 use native.Mathlib.Omega.{arith}
-use lib.Dec.{T, not-T, eqb, eqb→eq, eqb-refl}
+use lib.Dec.{T, not-T, eqb→eq, eqb-refl}
 use Rattle.laws.specs.Lists.{keep, Begins, put}
 use Rattle.laws.proofs.Tests.{cond-both}
 use Rattle.laws.proofs.ListLaws.{begins-refl}
@@ -65,10 +65,10 @@ module _ (st : Start) (q : Queue) (g : Sorted st q) (m : Message) (w : New st q 
   sender-accepted =
       let p = put stamp m q in
       let e = keep-put-last stamp (by (m .sender)) m q (g .rising) (eqb-refl (m .sender)) (λ b i t.
-          let d = eqb→eq (b .sender) (m .sender) t in
-          let c = le-last q b (m .sender) i d in
-          let a = w .above in
-          omega arith) (new-stamp st q g m w) in
+      let d = eqb→eq (b .sender) (m .sender) t in
+      let c = le-last q b (m .sender) i d in
+      let a = w .above in
+      omega arith) (new-stamp st q g m w) in
       cond-both (λ x. keep (by (m .sender)) x ≡ keep (by (m .sender)) q ++ (m ∷ [])) (acks m) (say st 3 p) p
       (λ y. others-said st p 3 (m .sender) (w .other) ∙ e)
       (λ n. e)

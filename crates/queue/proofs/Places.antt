@@ -8,15 +8,14 @@ use native.Mathlib.Omega.{arith}
 use lib.Dec.{leb, eqb, leb→le, le→leb, eqb→eq}
 use lib.ListN.{length}
 use mir.Facts.{yes-and}
-use Rattle.laws.specs.Below.{sumTo}
 use Rattle.laws.specs.Lists.{keep, many, Begins, Rising, upto}
 use Rattle.laws.proofs.Tests.{test, and-l, and-r, neqb→ne, leb-total}
 use Rattle.laws.proofs.BelowLaws.{sumTo-le, sumTo-zero}
 use Rattle.laws.proofs.ListLaws.{keep-in, keep-keep, many-le, begins-refl, begins-trans, begins-keep, begins-length, parts}
-use Rattle.laws.proofs.RisingLaws.{rising-seam, rising-keep, upto-append, upto-few}
+use Rattle.laws.proofs.RisingLaws.{rising-seam, upto-append, upto-few}
 use Rattle.frame.specs.declared.Message.{Message}
 use Rattle.frame.specs.Message.{isTake, isReturn, counted, stamp, by}
-use Rattle.queue.specs.Queue.{heard, settled, takes, number, room, grants}
+use Rattle.queue.specs.Queue.{heard, settled, takes, room, grants}
 use Rattle.queue.specs.Feeder.{Line, start, Feeder, sent, had, returnsSent, granted}
 use Rattle.queue.proofs.Heard.{settled-in, takes-rising}
 use Rattle.queue.proofs.Agree.{Sound, one-order}
@@ -57,9 +56,9 @@ module _ (L : Line) (s : Feeder) (w : Sound L s) where
   returns-le p l =
       let e = parts (λ m. m .sender) (L .posts) isReturn (s p) (λ m i. w .good p l .sorted .proper m i .sender) in
       let a = sumTo-le (L .posts) (λ r. many isReturn (had s r p)) (λ r. many isReturn (sent s r)) (λ r lr.
-          test (eqb r p)
-          (λ y. rw (eqb→eq r p y) (omega arith))
-          (λ n. begins-length (keep isReturn (had s r p)) (keep isReturn (sent s r)) (begins-keep isReturn (had s r p) (sent s r) (w .faithful r p lr l (neqb→ne r p n))))) in
+      test (eqb r p)
+      (λ y. rw (eqb→eq r p y) (omega arith))
+      (λ n. begins-length (keep isReturn (had s r p)) (keep isReturn (sent s r)) (begins-keep isReturn (had s r p) (sent s r) (w .faithful r p lr l (neqb→ne r p n))))) in
       omega arith
 
   room-le : (p : ℕ) → p < L .posts → room (start L p) (s p) ≤ L .places + returnsSent L s
@@ -81,10 +80,10 @@ module _ (L : Line) (s : Feeder) (w : Sound L s) where
       let g : Message → Bool = λ m. by p m && leb (upto stamp t m) x in
       let up : Rising stamp (mine ++ b .0) = subst (Rising stamp) (sym (b .1)) r in
       let one = many-le f g mine (λ m i y.
-          let u = leb→le (upto stamp mine m) (room (start L p) (s p)) (and-r (by p m) _ y) in
-          let e : upto stamp t m ≡ upto stamp mine m =
-              ap (λ (l : List Message). upto stamp l m) (sym (b .1)) ∙ upto-append stamp mine (b .0) m (λ z j. rising-seam stamp mine (b .0) up m z i j) in
-          yes-and (by p m) _ (and-l (by p m) _ y) (le→leb (upto stamp t m) x (omega arith))) in
+      let u = leb→le (upto stamp mine m) (room (start L p) (s p)) (and-r (by p m) _ y) in
+      let e : upto stamp t m ≡ upto stamp mine m =
+      ap (λ (l : List Message). upto stamp l m) (sym (b .1)) ∙ upto-append stamp mine (b .0) m (λ z j. rising-seam stamp mine (b .0) up m z i j) in
+      yes-and (by p m) _ (and-l (by p m) _ y) (le→leb (upto stamp t m) x (omega arith))) in
       let two = begins-length (keep g mine) (keep g t) (begins-keep g mine t b) in
       let three = ap length (keep-keep (λ m. leb (upto stamp t m) x) (by p) t) in
       omega arith
@@ -103,9 +102,9 @@ module _ (L : Line) (s : Feeder) (w : Sound L s) where
       let g = w .good (b .post) (b .there) .sorted in
       let up = takes-rising st q (g .rising) in
       let one = sumTo-le (L .posts) (λ p. length (grants (start L p) (s p))) (λ p. many (λ m. leb (upto stamp all m) x) (keep (by p) all)) (λ p l.
-          grants-le x p all up (begins-keep isTake (settledAt p) (settledAt (b .post)) (b .holds p (omega arith))) (room-le p l)) in
+      grants-le x p all up (begins-keep isTake (settledAt p) (settledAt (b .post)) (b .holds p (omega arith))) (room-le p l)) in
       let two = parts (λ m. m .sender) (L .posts) (λ m. leb (upto stamp all m) x) all
-          (λ m i. g .proper m (settled-in st q m (keep-in isTake m (settled st q) i .0) .0) .sender) in
+      (λ m i. g .proper m (settled-in st q m (keep-in isTake m (settled st q) i .0) .0) .sender) in
       let three = upto-few stamp all x up in
       omega arith)
       (leb-total (L .posts) 0)

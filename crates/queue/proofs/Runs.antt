@@ -4,12 +4,9 @@ use mathlib.Core.Path.{_≡_, refl, sym, ap, _∙_, subst}
 use mathlib.Core.Logic.{inl, ⊎-elim}
 use mathlib.Core.Bool.{not, _&&_}
 use mathlib.Core.List.{List, [], _∷_, _++_, append-assoc}
-use Prim.Native.Nat.{ℕ, suc, _≤_, _<_}
+use Prim.Native.Nat.{ℕ, _≤_, _<_}
 use native.Mathlib.Omega.{arith}
-use lib.Dec.{T, leb, ltb, eqb, leb→le, ltb→lt, eqb→eq, not-T, eqb-refl}
-use lib.ListN.{length, drop}
-use lib.Seq.{drop-append-seam}
-use lib.Ieee.Bits.{is-true, is-false}
+use lib.Dec.{leb, ltb, eqb, leb→le, ltb→lt, eqb→eq}
 use Rattle.laws.specs.Lists.{In, keep, Begins, put}
 use Rattle.laws.proofs.Tests.{test, cond-both, and-l, and-r, neqb→ne}
 use Rattle.laws.proofs.ListLaws.{in-right, keep-in, begins-refl, begins-trans, begins-drop}
@@ -17,15 +14,15 @@ use Rattle.laws.proofs.RisingLaws.{in-put, top-lt}
 use Rattle.frame.specs.declared.Message.{Message}
 use Rattle.frame.specs.declared.Fields.{Fields}
 use Rattle.frame.specs.Message.{lastCounter, stamp, by}
-use Rattle.frame.specs.Frame.{frame, fieldsOf}
+use Rattle.frame.specs.Frame.{frame}
 use Rattle.frame.proofs.Frames.{InWidth}
 use Rattle.frame.proofs.FrameFields.{frame-fields}
 use Rattle.queue.specs.Queue.{Queue, clock}
 use Rattle.queue.specs.Calls.{saying, say, acks, accept}
-use Rattle.queue.specs.Feeder.{Line, start, Feeder, fresh, sent, had, pending, Act, takeAt, returnAt, deliver, Made, none, at-post, buffer, offered, made, with-queue, after, run}
+use Rattle.queue.specs.Feeder.{Line, start, Feeder, fresh, sent, had, pending, Act, takeAt, returnAt, deliver, none, at-post, buffer, offered, made, with-queue, after, run}
 use Rattle.queue.specs.Demand3.{Faithful}
-use Rattle.queue.proofs.Good.{Good, New, le-clock}
-use Rattle.queue.proofs.Changes.{Change, unchanged, took, gave-back, accepted, took-next, returned-next, received-next}
+use Rattle.queue.proofs.Good.{New, le-clock}
+use Rattle.queue.proofs.Changes.{Change, took, gave-back, accepted, took-next, returned-next, received-next}
 use Rattle.queue.proofs.Parts.{others-said, others-accepted, own-said, own-accepted, sender-accepted}
 use Rattle.queue.proofs.Marks.{in-say}
 use Rattle.queue.proofs.Holding.{Kept, kept-change, kept-empty}
@@ -97,7 +94,7 @@ module _ (L : Line) (s : Feeder) (w : Ran L s) where
       let a = o .0 in
       let b = o .1 in
       let t = top-lt (λ z. z .counter) p lastCounter (omega arith) (λ z j.
-          ⊎-elim (λ d. let f = ap (λ (u : Message). u .counter) d in omega arith) (λ k. let f = le-clock (s q) z k in omega arith) (in-put stamp m z (s q) j)) in
+      ⊎-elim (λ d. let f = ap (λ (u : Message). u .counter) d in omega arith) (λ k. let f = le-clock (s q) z k in omega arith) (in-put stamp m z (s q) j)) in
       omega arith)
       (small x)
       (in-say (start L q) 3 p x i))
