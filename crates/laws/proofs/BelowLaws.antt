@@ -45,6 +45,11 @@ one-yes : (b : Bool) → T b → one? b ≡ 1
 one-yes true t = refl
 one-yes false t = absurd t
 
+pub one-le : (a b : Bool) → (T a → T b) → one? a ≤ one? b
+one-le true true h = omega arith
+one-le true false h = absurd (h tt)
+one-le false b h = omega arith
+
 one-eqb : (m n : ℕ) → (m ≡ n → ⊥) → one? (eqb m n) ≡ 0
 one-eqb m n d = go (eqb m n) (λ t. d (eqb→eq m n t))
   where

@@ -12,9 +12,12 @@ use lib.Ieee.Bits.{is-true, is-false}
 use Rattle.laws.specs.Below.{sumTo, one?}
 use Rattle.laws.specs.Lists.{In, keep, many, final, Begins}
 use Rattle.laws.proofs.Tests.{test, cond-both}
-use Rattle.laws.proofs.BelowLaws.{sumTo-cong, sumTo-add, sumTo-zero, one-below}
+use Rattle.laws.proofs.BelowLaws.{sumTo-cong, sumTo-add, sumTo-zero, one-le, one-below}
 
 module _ {A : Type 0} where
+  pub in-cast : {a b : A} (l : List A) → a ≡ b → In a l → In b l
+  in-cast l e i = subst (λ (x : A). In x l) e i
+
   pub in-left : (a : A) (s t : List A) → In a s → In a (s ++ t)
   in-left a [] t m = absurd m
   in-left a (x ∷ s) t (inl e) = inl e
@@ -95,11 +98,6 @@ module _ {A : Type 0} where
       let b = many-cons g x xs in
       let c = one-le (f x) (g x) (h x (inl refl)) in
       omega arith
-    where
-      one-le : (a b : Bool) → (T a → T b) → one? a ≤ one? b
-      one-le true true h = omega arith
-      one-le true false h = absurd (h tt)
-      one-le false b h = omega arith
 
   -- ---- one list begins another
 

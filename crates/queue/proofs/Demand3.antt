@@ -13,7 +13,7 @@ use Rattle.queue.proofs.Places.{never-more}
 use Rattle.queue.proofs.Cleared.{all-settled, exactly}
 use Rattle.queue.proofs.Marks.{grants-marked}
 use Rattle.queue.proofs.Holding.{Kept, kept-change, kept-empty, never-more-hold}
-use Rattle.queue.proofs.Runs.{ran-fresh, ran}
+use Rattle.queue.proofs.Runs.{ran}
 
 demand3 : (L : Line) (s : Feeder) → ((p : ℕ) → p < L .posts → Kept (start L p) (s p)) → Faithful L s → Demand3 L s
 demand3 L s k f =
@@ -34,7 +34,7 @@ strong L few s r f =
     f
 
 pub runs : Runs
-runs L few f acts = let r = ran L f acts fresh (ran-fresh L few) in demand3 L (run L fresh acts) (r .kept) (r .faithful)
+runs L few f acts = let r = ran L few f acts in demand3 L (run L fresh acts) (r .kept) (r .faithful)
 
 pub marks : Marks
 unfolding grants settled keep

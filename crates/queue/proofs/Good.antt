@@ -1,7 +1,7 @@
 -- What the queue of a post has, whatever calls were made: it is sorted by stamp, its messages are proper, and each take or return of another
 -- post stands below a message of its own. Assumes nothing.
 use mathlib.Core.Path.{_≡_, refl, sym, ap, subst}
-use mathlib.Core.Logic.{inl, inr, ⊎-elim}
+use mathlib.Core.Logic.{_⊎_, inl, inr, ⊎-elim}
 use mathlib.Core.List.{[]}
 use Prim.Native.Nat.{ℕ, _≤_, _<_}
 use native.Mathlib.Omega.{arith}
@@ -58,6 +58,10 @@ unfolding last
 le-last q m r i e =
     le-top (λ x. x .counter) m (keep (by r) q) (in-keep (by r) m q i (subst (λ (x : ℕ). T (by x m)) e (eqb-refl (m .sender))))
 
+pub in-say : (st : Start) (kind : ℕ) (q : Queue) (m : Message) → In m (say st kind q) → (m ≡ saying st kind q) ⊎ In m q
+unfolding say
+in-say st kind q m i = in-put stamp (saying st kind q) m q i
+
 module _ (st : Start) (q : Queue) (g : Sorted st q) where
   -- what a post says stands above all that it has
   pub say-above : (kind : ℕ) (m : Message) → In m q → stamp m < stamp (saying st kind q)
@@ -102,7 +106,7 @@ module _ (st : Start) (q : Queue) (g : Good st q) where
         ⊎-elim
         (λ e. absurd (d (ap (λ (x : Message). x .sender) e)))
         (λ j. topped-put st q (saying st kind q) m (g .topped m j c d))
-        (in-put stamp (saying st kind q) m q i);
+        (in-say st kind q m i);
   }
 
   pub good-accept : (m : Message) → New st q m → Good st (accept st q m)
@@ -118,7 +122,7 @@ module _ (st : Start) (q : Queue) (g : Good st q) where
             ⊎-elim
             (λ e. absurd (d (ap (λ (z : Message). z .sender) e)))
             (λ j. (a, put-in stamp a a p (inl refl), refl, say-above st p s 3 x j))
-            (in-put stamp a x p i);
+            (in-say st 3 p x i);
       })
       (λ n. record {
         sorted = s;

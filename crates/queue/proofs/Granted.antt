@@ -1,18 +1,22 @@
 -- The granted takes, the own latest take or return, and the phase. Assumes nothing.
-use mathlib.Core.Path.{_≡_, refl, subst, sym}
+use mathlib.Core.Path.{_≡_, refl, sym, ap, _∙_, subst}
 use mathlib.Core.Logic.{⊎-elim}
 use mathlib.Core.Bool.{Bool, true, false, not, cond, _&&_}
-use Prim.Native.Nat.{_≤_}
+use mathlib.Core.List.{List}
+use Prim.Native.Nat.{ℕ, _≤_}
 use native.Mathlib.Omega.{arith}
-use lib.Dec.{T, leb, eqb, leb→le, le→leb}
+use lib.Dec.{T, leb, eqb, not-T, leb→le, le→leb, eqb→eq, eqb-refl}
 use mir.Facts.{yes-and}
-use Rattle.laws.specs.Lists.{In, keep, Rising}
+use Rattle.laws.specs.Lists.{In, keep, final, Rising, put}
 use Rattle.laws.proofs.Tests.{and-l, and-r, or-l}
-use Rattle.laws.proofs.ListLaws.{in-keep, keep-in, final-in}
+use Rattle.laws.proofs.ListLaws.{in-keep, keep-in, final-in, final-snoc}
 use Rattle.laws.proofs.RisingLaws.{rising-keep, final-most}
 use Rattle.frame.specs.declared.Message.{Message}
 use Rattle.frame.specs.Message.{msg, isTake, isReturn, counted, stamp, by}
 use Rattle.queue.specs.Queue.{Start, Queue, heard, settled, takes, number, room, grants, latest, phase}
+use Rattle.queue.specs.Calls.{saying, say, accept}
+use Rattle.queue.proofs.Good.{Sorted}
+use Rattle.queue.proofs.Parts.{keep-say-last, keep-accept-no}
 use Rattle.queue.proofs.Heard.{settled-in, in-settled, takes-rising}
 use Rattle.queue.proofs.Grow.{Later, heard-grows, number-stays, room-grows}
 
@@ -24,9 +28,16 @@ pub record Granted (st : Start) (q : Queue) (m : Message) : Type 0 where
   pub heard-there : T (heard st q m)
   pub fits : number st q m ≤ room st q
 
--- the own takes and returns
+pub take-cast : {a b : Message} → a ≡ b → T (isTake a) → T (isTake b)
+take-cast e t = subst (λ (x : Message). T (isTake x)) e t
+
+-- the post's own takes and returns
 abbrev pub ownCounted : Start → Message → Bool
 ownCounted st m = by (st .own) m && counted m
+
+-- what stands for the latest before there is one
+abbrev before : Start → Message
+before st = msg 2 (st .own) 0
 
 module _ (st : Start) (q : Queue) where
   abbrev fits : Message → Bool
@@ -64,16 +75,16 @@ module _ (st : Start) (q : Queue) where
   pub latest-most : (m : Message) → Rising stamp q → In m q → T (by (st .own) m) → T (counted m) → stamp m ≤ stamp (latest st q)
   unfolding latest
   latest-most m r i o c =
-      final-most stamp (keep (ownCounted st) q) (msg 2 (st .own) 0) m (rising-keep stamp (ownCounted st) q r)
+      final-most stamp (keep (ownCounted st) q) (before st) m (rising-keep stamp (ownCounted st) q r)
       (in-keep (ownCounted st) m q i (yes-and (by (st .own) m) _ o c))
 
   latest-in : T (isTake (latest st q)) → In (latest st q) q × T (by (st .own) (latest st q))
   unfolding latest
   latest-in t =
       ⊎-elim
-      (λ e. absurd (subst (λ (x : Message). T (isTake x)) e t))
+      (λ e. absurd (take-cast e t))
       (λ i. let k = keep-in (ownCounted st) (latest st q) q i in (k .0, and-l (by (st .own) (latest st q)) _ (k .1)))
-      (final-in (keep (ownCounted st) q) (msg 2 (st .own) 0))
+      (final-in (keep (ownCounted st) q) (before st))
 
   -- ---- the phase
 
@@ -115,7 +126,8 @@ module _ (st : Start) (q : Queue) where
   latest-holding i =
       let m = latest st q in
       let g = grants-in m i in
-      subst T (sym three-is) (yes-and (isTake m) _ (g .take) (yes-and (heard st q m) _ (g .heard-there) (le→leb (number st q m) (room st q) (g .fits))))
+      subst T (sym three-is)
+      (yes-and (isTake m) _ (g .take) (yes-and (heard st q m) _ (g .heard-there) (le→leb (number st q m) (room st q) (g .fits))))
 
 pub grants-grow : (st : Start) (q q′ : Queue) → Later st q q′ → (m : Message) → In m (grants st q) → In m (grants st q′)
 grants-grow st q q′ l m i =
@@ -124,9 +136,28 @@ grants-grow st q q′ l m i =
     let b = room-grows st q q′ l in
     let c = g .fits in
     in-grants st q′ m (record {
-      here = l .holds m (g .here);
+      here = l .keeps m (g .here);
       own = g .own;
       take = g .take;
       heard-there = heard-grows st q q′ l m (g .heard-there);
       fits = omega arith;
     })
+
+-- ---- after a call
+
+module _ (st : Start) (q : Queue) where
+  pub latest-said : Sorted st q → (kind : ℕ) → T (counted (msg kind (st .own) 0)) → latest st (say st kind q) ≡ saying st kind q
+  unfolding latest saying
+  latest-said g kind c =
+      ap (λ (l : List Message). final l (before st))
+      (keep-say-last st q (ownCounted st) g kind (yes-and (eqb (st .own) (st .own)) _ (eqb-refl (st .own)) c))
+      ∙ final-snoc (keep (ownCounted st) q) (saying st kind q) (before st)
+
+  pub latest-accepted : (m : Message) → (m .sender ≡ st .own → ⊥) → latest st (accept st q m) ≡ latest st q
+  unfolding latest saying
+  latest-accepted m d =
+      let a = saying st 3 (put stamp m q) in
+      ap (λ (l : List Message). final l (before st))
+      (keep-accept-no st q (ownCounted st) m
+      (not-T (ownCounted st m) (λ y. d (eqb→eq (m .sender) (st .own) (and-l (by (st .own) m) _ y))))
+      (not-T (ownCounted st a) (and-r (by (st .own) a) (counted a))))

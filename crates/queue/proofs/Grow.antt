@@ -1,19 +1,19 @@
 -- A post's settled list only grows at its end, numbers stay, and room only grows. Assumes nothing.
-use mathlib.Core.Path.{_≡_, sym, ap, _∙_, subst}
+use mathlib.Core.Path.{_≡_, ap}
 use mathlib.Core.Logic.{_⊎_, inl, inr, ⊎-elim}
-use mathlib.Core.List.{List, _++_}
 use Prim.Native.Nat.{ℕ, _≤_, _<_}
 use native.Mathlib.Omega.{arith}
 use lib.Dec.{T}
-use Rattle.laws.specs.Lists.{In, keep, Begins, Rising, put, upto}
+use Rattle.laws.specs.Lists.{In, keep, Begins, Rising, put}
 use Rattle.laws.proofs.Tests.{cond-both}
 use Rattle.laws.proofs.ListLaws.{in-keep, keep-in, begins-in, begins-keep, begins-length}
-use Rattle.laws.proofs.RisingLaws.{rising-seam, begins-of, in-put, put-in, upto-append, top-mono}
+use Rattle.laws.proofs.RisingLaws.{begins-of, in-put, put-in, upto-begins, top-mono}
 use Rattle.frame.specs.declared.Message.{Message}
 use Rattle.frame.specs.Message.{isTake, isReturn, known, stamp, by}
+use Rattle.frame.specs.Frame.{fieldsOf}
 use Rattle.queue.specs.Queue.{Start, Queue, last, heard, settled, takes, number, room}
-use Rattle.queue.specs.Calls.{saying, say, acks, accept}
-use Rattle.queue.proofs.Good.{Sorted, New, say-above, sorted-say, sorted-new}
+use Rattle.queue.specs.Calls.{Call, saying, say, acks, accept}
+use Rattle.queue.proofs.Good.{in-say, Sorted, New, say-above, sorted-say, sorted-new}
 use Rattle.queue.proofs.Changes.{Change, unchanged, took, gave-back, accepted}
 use Rattle.queue.proofs.Heard.{heard-at, at-heard, settled-in, in-settled, settled-rising, takes-rising}
 
@@ -21,14 +21,15 @@ use Rattle.queue.proofs.Heard.{heard-at, at-heard, settled-in, in-settl
 pub record Later (st : Start) (q q′ : Queue) : Type 0 where
   pub before : Rising stamp q
   pub after : Rising stamp q′
-  pub holds : (m : Message) → In m q → In m q′
+  pub keeps : (m : Message) → In m q → In m q′
   pub above : (m : Message) → In m q′ → In m q ⊎ ((b : Message) → In b (settled st q) → stamp b < stamp m)
 
 module _ (st : Start) (q q′ : Queue) (l : Later st q q′) where
   last-grows : (r : ℕ) → last r q ≤ last r q′
   unfolding last
   last-grows r =
-      top-mono (λ m. m .counter) (keep (by r) q) (keep (by r) q′) (λ m i. let k = keep-in (by r) m q i in in-keep (by r) m q′ (l .holds m (k .0)) (k .1))
+      top-mono (λ m. m .counter) (keep (by r) q) (keep (by r) q′)
+      (λ m i. let k = keep-in (by r) m q i in in-keep (by r) m q′ (l .keeps m (k .0)) (k .1))
 
   pub heard-grows : (m : Message) → T (heard st q m) → T (heard st q′ m)
   heard-grows m h = at-heard st q′ m (λ r lr d. let a = heard-at st q m h r lr d in let b = last-grows r in omega arith)
@@ -36,7 +37,7 @@ module _ (st : Start) (q q′ : Queue) (l : Later st q q′) where
   pub settled-grows : Begins (settled st q) (settled st q′)
   settled-grows =
       begins-of stamp (settled st q) (settled st q′) (settled-rising st q (l .before)) (settled-rising st q′ (l .after))
-      (λ a i. let x = settled-in st q a i in in-settled st q′ a (l .holds a (x .0)) (x .1) (heard-grows a (x .2)))
+      (λ a i. let x = settled-in st q a i in in-settled st q′ a (l .keeps a (x .0)) (x .1) (heard-grows a (x .2)))
       (λ a b i j le.
       let x = settled-in st q′ a i in
       let y = settled-in st q b j in
@@ -47,15 +48,13 @@ module _ (st : Start) (q q′ : Queue) (l : Later st q q′) where
 
   pub number-stays : (m : Message) → In m (takes st q) → number st q′ m ≡ number st q m
   number-stays m i =
-      let b = begins-keep isTake (settled st q) (settled st q′) settled-grows in
-      let up : Rising stamp (takes st q ++ b .0) = subst (Rising stamp) (sym (b .1)) (takes-rising st q′ (l .after)) in
-      ap (λ (t : List Message). upto stamp t m) (sym (b .1))
-      ∙ upto-append stamp (takes st q) (b .0) m (λ z j. rising-seam stamp (takes st q) (b .0) up m z i j)
+      upto-begins stamp (takes st q) (takes st q′) (begins-keep isTake (settled st q) (settled st q′) settled-grows) (takes-rising st q′ (l .after)) m i
 
   pub room-grows : room st q ≤ room st q′
   unfolding room
   room-grows =
-      let b = begins-length (keep isReturn (settled st q)) (keep isReturn (settled st q′)) (begins-keep isReturn (settled st q) (settled st q′) settled-grows) in
+      let b = begins-keep isReturn (settled st q) (settled st q′) settled-grows in
+      let c = begins-length (keep isReturn (settled st q)) (keep isReturn (settled st q′)) b in
       omega arith
 
 -- ---- the calls
@@ -64,7 +63,7 @@ later-trans : (st : Start) (q r t : Queue) → Later st q r → Later st r t →
 later-trans st q r t k l = record {
   before = k .before;
   after = l .after;
-  holds = λ m i. l .holds m (k .holds m i);
+  keeps = λ m i. l .keeps m (k .keeps m i);
   above = λ m i. ⊎-elim (k .above m) (λ h. inr (λ b j. h b (begins-in b (settled st q) (settled st r) (settled-grows st q r k) j))) (l .above m i);
 }
 
@@ -73,12 +72,12 @@ unfolding say
 later-say st q g kind k = record {
   before = g .rising;
   after = sorted-say st q g kind k .rising;
-  holds = λ m i. put-in stamp (saying st kind q) m q (inr i);
+  keeps = λ m i. put-in stamp (saying st kind q) m q (inr i);
   above = λ m i.
       ⊎-elim
       (λ e. inr (λ b j. let h = say-above st q g kind b (settled-in st q b j .0) in let c = ap stamp e in omega arith))
       inl
-      (in-put stamp (saying st kind q) m q i);
+      (in-say st kind q m i);
 }
 
 module _ (st : Start) (q : Queue) (g : Sorted st q) where
@@ -86,7 +85,7 @@ module _ (st : Start) (q : Queue) (g : Sorted st q) where
   later-new m w = record {
     before = g .rising;
     after = sorted-new st q g m w .rising;
-    holds = λ x i. put-in stamp m x q (inr i);
+    keeps = λ x i. put-in stamp m x q (inr i);
     above = λ x i.
         ⊎-elim
         (λ e. inr (λ b j.
@@ -105,8 +104,8 @@ module _ (st : Start) (q : Queue) (g : Sorted st q) where
       let l = later-new m w in
       cond-both (Later st q) (acks m) (say st 3 p) p (λ y. later-trans st q p (say st 3 p) l (later-say st p (sorted-new st q g m w) 3 tt)) (λ n. l)
 
-  pub later : (q′ : Queue) → Change st q q′ → Later st q q′
-  later q′ unchanged = record { before = g .rising; after = g .rising; holds = λ m i. i; above = λ m i. inl i }
-  later q′ (took z l) = later-say st q g 1 tt
-  later q′ (gave-back z l) = later-say st q g 2 tt
-  later q′ (accepted m w) = later-accept m w
+  pub later : (c : Call) (q′ : Queue) → Change st q c q′ → Later st q q′
+  later c q′ unchanged = record { before = g .rising; after = g .rising; keeps = λ m i. i; above = λ m i. inl i }
+  later c q′ (took z l) = later-say st q g 1 tt
+  later c q′ (gave-back z l) = later-say st q g 2 tt
+  later c q′ (accepted {s = s} w) = later-accept (fieldsOf s .message) w

@@ -1,18 +1,18 @@
 -- Demand 3, second part: the takes granted anywhere, less the returns sent, never exceed the places. Assumes nothing.
-use mathlib.Core.Path.{_≡_, sym, ap, _∙_, subst}
+use mathlib.Core.Path.{ap, subst}
 use mathlib.Core.Logic.{⊎-elim}
 use mathlib.Core.Bool.{Bool, _&&_}
-use mathlib.Core.List.{List, _++_}
+use mathlib.Core.List.{List}
 use Prim.Native.Nat.{ℕ, zero, suc, pred, _+_, _≤_, _<_}
 use native.Mathlib.Omega.{arith}
-use lib.Dec.{leb, eqb, leb→le, le→leb, eqb→eq}
+use lib.Dec.{T, leb, eqb, leb→le, le→leb, eqb→eq}
 use lib.ListN.{length}
 use mir.Facts.{yes-and}
-use Rattle.laws.specs.Lists.{keep, many, Begins, Rising, upto}
+use Rattle.laws.specs.Lists.{In, keep, many, Begins, Rising, upto}
 use Rattle.laws.proofs.Tests.{test, and-l, and-r, neqb→ne, leb-total}
 use Rattle.laws.proofs.BelowLaws.{sumTo-le, sumTo-zero}
 use Rattle.laws.proofs.ListLaws.{keep-in, keep-keep, many-le, begins-refl, begins-trans, begins-keep, begins-length, parts}
-use Rattle.laws.proofs.RisingLaws.{rising-seam, upto-append, upto-few}
+use Rattle.laws.proofs.RisingLaws.{upto-begins, upto-few}
 use Rattle.frame.specs.declared.Message.{Message}
 use Rattle.frame.specs.Message.{isTake, isReturn, counted, stamp, by}
 use Rattle.queue.specs.Queue.{heard, settled, takes, room, grants}
@@ -28,37 +28,43 @@ module _ (L : Line) (s : Feeder) (w : Sound L s) where
   record Longest (j : ℕ) : Type 0 where
     post : ℕ
     there : post < L .posts
-    holds : (p : ℕ) → p ≤ j → Begins (settledAt p) (settledAt post)
+    covers : (p : ℕ) → p ≤ j → Begins (settledAt p) (settledAt post)
 
   longest : (j : ℕ) → j < L .posts → Longest j
-  longest zero h = record { post = 0; there = h; holds = λ p l. subst (λ (x : ℕ). Begins (settledAt x) (settledAt 0)) (omega arith) (begins-refl (settledAt 0)) }
+  longest zero h =
+      record { post = 0; there = h; covers = λ p l. subst (λ (x : ℕ). Begins (settledAt x) (settledAt 0)) (omega arith) (begins-refl (settledAt 0)) }
   longest (suc j) h =
       let b = longest j (omega arith) in
       ⊎-elim
       (λ x. record {
         post = suc j;
         there = h;
-        holds = λ p l.
+        covers = λ p l.
             test (eqb p (suc j))
             (λ y. rw (eqb→eq p (suc j) y) (begins-refl (settledAt (suc j))))
-            (λ n. let d = neqb→ne p (suc j) n in begins-trans (settledAt p) (settledAt (b .post)) (settledAt (suc j)) (b .holds p (omega arith)) x);
+            (λ n. let d = neqb→ne p (suc j) n in begins-trans (settledAt p) (settledAt (b .post)) (settledAt (suc j)) (b .covers p (omega arith)) x);
       })
       (λ x. record {
         post = b .post;
         there = b .there;
-        holds = λ p l. test (eqb p (suc j)) (λ y. rw (eqb→eq p (suc j) y) x) (λ n. let d = neqb→ne p (suc j) n in b .holds p (omega arith));
+        covers = λ p l. test (eqb p (suc j)) (λ y. rw (eqb→eq p (suc j) y) x) (λ n. let d = neqb→ne p (suc j) n in b .covers p (omega arith));
       })
       (one-order L s w (b .post) (suc j) (b .there) h)
 
   -- the returns in any queue are at most those sent
+  had-le : (r p : ℕ) → r < L .posts → p < L .posts → many isReturn (had s r p) ≤ many isReturn (sent s r)
+  had-le r p lr lp =
+      test (eqb r p)
+      (λ y. rw (eqb→eq r p y) (omega arith))
+      (λ n.
+      let b = begins-keep isReturn (had s r p) (sent s r) (w .faithful r p lr lp (neqb→ne r p n)) in
+      begins-length (keep isReturn (had s r p)) (keep isReturn (sent s r)) b)
+
   returns-le : (p : ℕ) → p < L .posts → many isReturn (s p) ≤ returnsSent L s
   unfolding returnsSent
   returns-le p l =
       let e = parts (λ m. m .sender) (L .posts) isReturn (s p) (λ m i. w .good p l .sorted .proper m i .sender) in
-      let a = sumTo-le (L .posts) (λ r. many isReturn (had s r p)) (λ r. many isReturn (sent s r)) (λ r lr.
-      test (eqb r p)
-      (λ y. rw (eqb→eq r p y) (omega arith))
-      (λ n. begins-length (keep isReturn (had s r p)) (keep isReturn (sent s r)) (begins-keep isReturn (had s r p) (sent s r) (w .faithful r p lr l (neqb→ne r p n))))) in
+      let a = sumTo-le (L .posts) _ _ (λ r lr. had-le r p lr l) in
       omega arith
 
   room-le : (p : ℕ) → p < L .posts → room (start L p) (s p) ≤ L .places + returnsSent L s
@@ -70,41 +76,58 @@ module _ (L : Line) (s : Feeder) (w : Sound L s) where
       let c = many-le (λ m. f m && isReturn m) isReturn (s p) (λ m i. and-r (f m) (isReturn m)) in
       omega arith
 
-  -- a post's granted takes are its own among those that have a number up to x in a list which its settled list begins
+  -- a post's granted takes are own ones that have a number up to x in any list which its settled takes begin
   grants-le : (x p : ℕ) (t : List Message) → Rising stamp t → Begins (takes (start L p) (s p)) t → room (start L p) (s p) ≤ x
       → length (grants (start L p) (s p)) ≤ many (λ m. leb (upto stamp t m) x) (keep (by p) t)
   unfolding grants
   grants-le x p t r b h =
-      let mine = takes (start L p) (s p) in
-      let f : Message → Bool = λ m. by p m && leb (upto stamp mine m) (room (start L p) (s p)) in
-      let g : Message → Bool = λ m. by p m && leb (upto stamp t m) x in
-      let up : Rising stamp (mine ++ b .0) = subst (Rising stamp) (sym (b .1)) r in
-      let one = many-le f g mine (λ m i y.
-      let u = leb→le (upto stamp mine m) (room (start L p) (s p)) (and-r (by p m) _ y) in
-      let e : upto stamp t m ≡ upto stamp mine m =
-      ap (λ (l : List Message). upto stamp l m) (sym (b .1)) ∙ upto-append stamp mine (b .0) m (λ z j. rising-seam stamp mine (b .0) up m z i j) in
-      yes-and (by p m) _ (and-l (by p m) _ y) (le→leb (upto stamp t m) x (omega arith))) in
+      let one = many-le f g mine fits in
       let two = begins-length (keep g mine) (keep g t) (begins-keep g mine t b) in
       let three = ap length (keep-keep (λ m. leb (upto stamp t m) x) (by p) t) in
       omega arith
+    where
+      mine : List Message
+      mine = takes (start L p) (s p)
 
-  pub never-more : granted L s ≤ L .places + returnsSent L s
+      f : Message → Bool
+      f m = by p m && leb (upto stamp mine m) (room (start L p) (s p))
+
+      g : Message → Bool
+      g m = by p m && leb (upto stamp t m) x
+
+      fits : (m : Message) → In m mine → T (f m) → T (g m)
+      fits m i y =
+          let u = leb→le (upto stamp mine m) (room (start L p) (s p)) (and-r (by p m) _ y) in
+          let e = upto-begins stamp mine t b r m i in
+          yes-and (by p m) _ (and-l (by p m) _ y) (le→leb (upto stamp t m) x (omega arith))
+
+  -- all takes granted have different numbers in the longest list
+  numbered : 0 < L .posts → granted L s ≤ L .places + returnsSent L s
   unfolding granted
-  never-more =
+  numbered z =
       let x = L .places + returnsSent L s in
-      ⊎-elim
-      (λ z. let a = sumTo-le (L .posts) (λ p. length (grants (start L p) (s p))) (λ p. 0) (λ p l. absurd (omega arith)) in let b = sumTo-zero (L .posts) in omega arith)
-      (λ z.
       let b = longest (pred (L .posts)) (omega arith) in
       let st = start L (b .post) in
       let q = s (b .post) in
       let all = takes st q in
       let g = w .good (b .post) (b .there) .sorted in
       let up = takes-rising st q (g .rising) in
-      let one = sumTo-le (L .posts) (λ p. length (grants (start L p) (s p))) (λ p. many (λ m. leb (upto stamp all m) x) (keep (by p) all)) (λ p l.
-      grants-le x p all up (begins-keep isTake (settledAt p) (settledAt (b .post)) (b .holds p (omega arith))) (room-le p l)) in
-      let two = parts (λ m. m .sender) (L .posts) (λ m. leb (upto stamp all m) x) all
-      (λ m i. g .proper m (settled-in st q m (keep-in isTake m (settled st q) i .0) .0) .sender) in
+      let begins : (p : ℕ) → p < L .posts → Begins (takes (start L p) (s p)) all =
+      λ p l. begins-keep isTake (settledAt p) (settledAt (b .post)) (b .covers p (omega arith)) in
+      let senders : (m : Message) → In m all → m .sender < L .posts =
+      λ m i. g .proper m (settled-in st q m (keep-in isTake m (settled st q) i .0) .0) .sender in
+      let one = sumTo-le (L .posts) _ _ (λ p l. grants-le x p all up (begins p l) (room-le p l)) in
+      let two = parts (λ m. m .sender) (L .posts) (λ m. leb (upto stamp all m) x) all senders in
       let three = upto-few stamp all x up in
+      omega arith
+
+  pub never-more : granted L s ≤ L .places + returnsSent L s
+  unfolding granted
+  never-more =
+      ⊎-elim
+      (λ z.
+      let a = sumTo-le (L .posts) (λ p. length (grants (start L p) (s p))) (λ p. 0) (λ p l. absurd (omega arith)) in
+      let b = sumTo-zero (L .posts) in
       omega arith)
+      numbered
       (leb-total (L .posts) 0)

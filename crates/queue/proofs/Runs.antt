@@ -6,7 +6,7 @@ use mathlib.Core.Bool.{not, _&&_}
 use mathlib.Core.List.{List, [], _∷_, _++_, append-assoc}
 use Prim.Native.Nat.{ℕ, _≤_, _<_}
 use native.Mathlib.Omega.{arith}
-use lib.Dec.{leb, ltb, eqb, leb→le, ltb→lt, eqb→eq}
+use lib.Dec.{T, leb, ltb, eqb, leb→le, ltb→lt, eqb→eq}
 use Rattle.laws.specs.Lists.{In, keep, Begins, put}
 use Rattle.laws.proofs.Tests.{test, cond-both, and-l, and-r, neqb→ne}
 use Rattle.laws.proofs.ListLaws.{in-right, keep-in, begins-refl, begins-trans, begins-drop}
@@ -14,17 +14,17 @@ use Rattle.laws.proofs.RisingLaws.{in-put, top-lt}
 use Rattle.frame.specs.declared.Message.{Message}
 use Rattle.frame.specs.declared.Fields.{Fields}
 use Rattle.frame.specs.Message.{lastCounter, stamp, by}
-use Rattle.frame.specs.Frame.{frame}
+use Rattle.frame.specs.Frame.{frame, fieldsOf}
 use Rattle.frame.proofs.Frames.{InWidth}
 use Rattle.frame.proofs.FrameFields.{frame-fields}
-use Rattle.queue.specs.Queue.{Queue, clock}
-use Rattle.queue.specs.Calls.{saying, say, acks, accept}
-use Rattle.queue.specs.Feeder.{Line, start, Feeder, fresh, sent, had, pending, Act, takeAt, returnAt, deliver, none, at-post, buffer, offered, made, with-queue, after, run}
+use Rattle.queue.specs.Queue.{Start, Queue, clock}
+use Rattle.queue.specs.Calls.{Call, take-call, return-call, receive-call, value-call, missing-call, saying, say, acks, accept, onQueue}
+use Rattle.queue.specs.Feeder.{Line, start, Feeder, fresh, sent, had, pending, Act, takeAt, returnAt, deliver, none, at-post}
+use Rattle.queue.specs.Feeder.{buffer, offered, made, with-queue, after, run}
 use Rattle.queue.specs.Demand3.{Faithful}
-use Rattle.queue.proofs.Good.{New, le-clock}
-use Rattle.queue.proofs.Changes.{Change, took, gave-back, accepted, took-next, returned-next, received-next}
+use Rattle.queue.proofs.Good.{New, le-clock, in-say}
+use Rattle.queue.proofs.Changes.{Change, unchanged, took, gave-back, accepted, change}
 use Rattle.queue.proofs.Parts.{others-said, others-accepted, own-said, own-accepted, sender-accepted}
-use Rattle.queue.proofs.Marks.{in-say}
 use Rattle.queue.proofs.Holding.{Kept, kept-change, kept-empty}
 
 -- counters fit their four bytes
@@ -43,94 +43,110 @@ record Next (L : Line) (s : Feeder) (p : ℕ) (q : Queue) : Type 0 where
   own : Begins (sent s p) (keep (by p) q)
   others : (r : ℕ) → r < L .posts → (r ≡ p → ⊥) → Begins (keep (by r) q) (sent s r)
 
-module _ (L : Line) (s : Feeder) (w : Ran L s) where
-  ran-with : (p : ℕ) (q : Queue) → Next L s p q → Ran L (with-queue s p q)
-  ran-with p q n = record {
-    kept = λ r l. cond-both (Kept (start L r)) (eqb r p) q (s r) (λ y. subst (λ (x : ℕ). Kept (start L x) q) (sym (eqb→eq r p y)) (n .kept)) (λ z. w .kept r l);
-    small = λ r l. cond-both Small (eqb r p) q (s r) (λ y. n .small) (λ z. w .small r l);
+-- m is what r sent next after what p has of it
+abbrev Follows : Line → Feeder → ℕ → Message → Type 0
+Follows L s p m = (r : ℕ) × (r < L .posts) × (ms : List Message) × (had s r p ++ m ∷ ms ≡ sent s r)
+
+-- a call at p brings only that
+abbrev Brings : Line → Feeder → ℕ → Call → Type 0
+Brings L s p (take-call lent) = Unit
+Brings L s p (return-call lent) = Unit
+Brings L s p (receive-call f lent) = Follows L s p (fieldsOf f .message)
+Brings L s p value-call = Unit
+Brings L s p missing-call = Unit
+
+follower : (L : Line) (s : Feeder) (p : ℕ) (m : Message) (b : Follows L s p m) → In m (s (b .0)) × (m .sender ≡ b .0)
+follower L s p m b =
+    let k = keep-in (by (b .0)) m (s (b .0)) (subst (In m) (b .3) (in-right m (had s (b .0) p) (m ∷ b .2) (inl refl))) in
+    (k .0, eqb→eq (m .sender) (b .0) (k .1))
+
+module _ (L : Line) (s : Feeder) (w : Ran L s) (p : ℕ) (l : p < L .posts) where
+  abbrev st : Start
+  st = start L p
+
+  next-say : (kind : ℕ) → clock (s p) < lastCounter → Kept st (say st kind (s p)) → Next L s p (say st kind (s p))
+  unfolding saying
+  next-say kind c k = record {
+    kept = k;
+    small = λ m i. ⊎-elim (λ e. let h = ap (λ (x : Message). x .counter) e in omega arith) (w .small p l m) (in-say st kind (s p) m i);
+    own = own-said st (s p) (w .kept p l .good .sorted) kind;
+    others = λ r lr n. rw (others-said st (s p) kind r n) (w .faithful r p lr l n);
+  }
+
+  small-accept : (m : Message) → New st (s p) m → m .counter ≤ lastCounter → Small (accept st (s p) m)
+  unfolding accept saying clock
+  small-accept m n c = cond-both Small (acks m) (say st 3 q) q (λ y x i. ⊎-elim (acknowledged y x) (came x) (in-say st 3 q x i)) (λ z. came)
+    where
+      q : Queue
+      q = put stamp m (s p)
+
+      came : Small q
+      came x i = ⊎-elim (λ e. let h = ap (λ (z : Message). z .counter) e in omega arith) (w .small p l x) (in-put stamp m x (s p) i)
+
+      acknowledged : T (acks m) → (x : Message) → x ≡ saying st 3 q → x .counter ≤ lastCounter
+      acknowledged y x e =
+          let a = n .room y .0 in
+          let b = n .room y .1 in
+          let below : (z : Message) → In z q → z .counter < lastCounter =
+          λ z j. ⊎-elim (λ d. let h = ap (λ (u : Message). u .counter) d in omega arith) (λ k. let h = le-clock (s p) z k in omega arith) (in-put stamp m z (s p) j) in
+          let t = top-lt (λ z. z .counter) q lastCounter (omega arith) below in
+          let h = ap (λ (z : Message). z .counter) e in
+          omega arith
+
+  next-accept : (m : Message) → Follows L s p m → New st (s p) m → Kept st (accept st (s p) m) → Next L s p (accept st (s p) m)
+  next-accept m b n k =
+      let g = w .kept p l .good .sorted in
+      let f = follower L s p m b in
+      let joined : keep (by (m .sender)) (s p) ++ m ∷ b .2 ≡ sent s (m .sender) =
+      subst (λ (x : ℕ). keep (by x) (s p) ++ m ∷ b .2 ≡ sent s x) (sym (f .1)) (b .3) in
+      let more : Begins (keep (by (m .sender)) (accept st (s p) m)) (sent s (m .sender)) = (
+        b .2,
+        ap (λ (t : List Message). t ++ b .2) (sender-accepted st (s p) g m n) ∙ append-assoc (keep (by (m .sender)) (s p)) (m ∷ []) (b .2) ∙ joined,
+      ) in
+      record {
+        kept = k;
+        small = small-accept m n (w .small (b .0) (b .1) m (f .0));
+        own = own-accepted st (s p) g m n;
+        others = λ r lr d.
+            test (eqb r (m .sender))
+            (λ y. subst (λ (x : ℕ). Begins (keep (by x) (accept st (s p) m)) (sent s x)) (sym (eqb→eq r (m .sender) y)) more)
+            (λ z. rw (others-accepted st (s p) r m d (neqb→ne r (m .sender) z)) (w .faithful r p lr l d));
+      }
+
+  next : (c : Call) (q : Queue) → Brings L s p c → Change st (s p) c q → Kept st q → Next L s p q
+  next c q b unchanged k = record { kept = k; small = w .small p l; own = begins-refl (sent s p); others = λ r lr d. w .faithful r p lr l d }
+  next c q b (took z h) k = next-say 1 h k
+  next c q b (gave-back z h) k = next-say 2 h k
+  next c q b (accepted {s = f} n) k = next-accept (fieldsOf f .message) b n k
+
+  ran-with : (q : Queue) → Next L s p q → Ran L (with-queue s p q)
+  ran-with q n = record {
+    kept = λ r lr.
+        cond-both (Kept (start L r)) (eqb r p) q (s r) (λ y. subst (λ (x : ℕ). Kept (start L x) q) (sym (eqb→eq r p y)) (n .kept)) (λ z. w .kept r lr);
+    small = λ r lr. cond-both Small (eqb r p) q (s r) (λ y. n .small) (λ z. w .small r lr);
     faithful = λ a b la lb d.
         cond-both (λ x. Begins (keep (by a) x) (sent (with-queue s p q) a)) (eqb b p) q (s b)
         (λ y.
-        let e = eqb→eq b p y in
         cond-both (λ x. Begins (keep (by a) q) (keep (by a) x)) (eqb a p) q (s a)
-        (λ z. absurd (d (eqb→eq a p z ∙ sym e)))
+        (λ z. absurd (d (eqb→eq a p z ∙ sym (eqb→eq b p y))))
         (λ z. n .others a la (neqb→ne a p z)))
-        (λ y.
-        cond-both (λ x. Begins (had s a b) (keep (by a) x)) (eqb a p) q (s a)
-        (λ z.
-        let e = eqb→eq a p z in
-        subst (λ (x : ℕ). Begins (had s x b) (keep (by x) q)) (sym e)
-        (begins-trans (had s p b) (sent s p) (keep (by p) q) (w .faithful p b (subst (λ (x : ℕ). x < L .posts) e la) lb (λ x. d (e ∙ x))) (n .own)))
-        (λ z. w .faithful a b la lb d));
+        (λ y. cond-both (λ x. Begins (had s a b) (keep (by a) x)) (eqb a p) q (s a) (λ z. longer a b lb d (eqb→eq a p z)) (λ z. w .faithful a b la lb d));
   }
+    where
+      longer : (a b : ℕ) → b < L .posts → (a ≡ b → ⊥) → a ≡ p → Begins (had s a b) (keep (by a) q)
+      longer a b lb d e =
+          subst (λ (x : ℕ). Begins (had s x b) (keep (by x) q)) (sym e)
+          (begins-trans (had s p b) (sent s p) (keep (by p) q) (w .faithful p b l lb (λ x. d (e ∙ x))) (n .own))
 
-  next-same : (p : ℕ) → p < L .posts → Next L s p (s p)
-  next-same p l = record { kept = w .kept p l; small = w .small p l; own = begins-refl (sent s p); others = λ r lr d. w .faithful r p lr l d }
+  ran-call : (c : Call) → Brings L s p c → Ran L (after L s (at-post p c))
+  ran-call c b =
+      let q = onQueue st (s p) c .next in
+      let d = change st (s p) c in
+      ran-with q (next c q b d (kept-change st c (s p) q d (w .kept p l)))
 
-  next-say : (p kind : ℕ) → p < L .posts → clock (s p) < lastCounter → Change (start L p) (s p) (say (start L p) kind (s p))
-      → Next L s p (say (start L p) kind (s p))
-  unfolding saying
-  next-say p kind l c d =
-      let st = start L p in
-      let k = w .kept p l in
-      record {
-        kept = kept-change st (s p) (say st kind (s p)) d k;
-        small = λ m i. ⊎-elim (λ e. let h = ap (λ (x : Message). x .counter) e in omega arith) (w .small p l m) (in-say st kind (s p) m i);
-        own = own-said st (s p) (k .good .sorted) kind;
-        others = λ r lr n. rw (others-said st (s p) kind r n) (w .faithful r p lr l n);
-      }
-
-  small-accept : (q : ℕ) → q < L .posts → (m : Message) → New (start L q) (s q) m → m .counter ≤ lastCounter → Small (accept (start L q) (s q) m)
-  unfolding accept saying clock
-  small-accept q l m n c =
-      let p = put stamp m (s q) in
-      let small : Small p = λ x i. ⊎-elim (λ e. let h = ap (λ (z : Message). z .counter) e in omega arith) (w .small q l x) (in-put stamp m x (s q) i) in
-      cond-both Small (acks m) (say (start L q) 3 p) p
-      (λ y x i.
-      ⊎-elim
-      (λ e.
-      let h = ap (λ (z : Message). z .counter) e in
-      let o = n .room y in
-      let a = o .0 in
-      let b = o .1 in
-      let t = top-lt (λ z. z .counter) p lastCounter (omega arith) (λ z j.
-      ⊎-elim (λ d. let f = ap (λ (u : Message). u .counter) d in omega arith) (λ k. let f = le-clock (s q) z k in omega arith) (in-put stamp m z (s q) j)) in
-      omega arith)
-      (small x)
-      (in-say (start L q) 3 p x i))
-      (λ z. small)
-
-  -- the next message of p for q
-  of-sender : (p q : ℕ) (m : Message) (ms : List Message) → had s p q ++ m ∷ ms ≡ sent s p → In m (s p) × (m .sender ≡ p)
-  of-sender p q m ms e =
-      let k = keep-in (by p) m (s p) (subst (In m) e (in-right m (had s p q) (m ∷ ms) (inl refl))) in
-      (k .0, eqb→eq (m .sender) p (k .1))
-
-  next-accept : (p q : ℕ) → p < L .posts → q < L .posts → (m : Message) (ms : List Message) → had s p q ++ m ∷ ms ≡ sent s p → New (start L q) (s q) m
-      → Next L s q (accept (start L q) (s q) m)
-  next-accept p q lp lq m ms e n =
-      let st = start L q in
-      let k = w .kept q lq in
-      let g = k .good .sorted in
-      let o = of-sender p q m ms e in
-      record {
-        kept = kept-change st (s q) (accept st (s q) m) (accepted m n) k;
-        small = small-accept q lq m n (w .small p lp m (o .0));
-        own = own-accepted st (s q) g m n;
-        others = λ r lr d.
-            test (eqb r (m .sender))
-            (λ y.
-            subst (λ (x : ℕ). Begins (keep (by x) (accept st (s q) m)) (sent s x)) (sym (eqb→eq r (m .sender) y)) (
-              ms,
-              ap (λ (l : List Message). l ++ ms) (sender-accepted st (s q) g m n)
-                  ∙ append-assoc (keep (by (m .sender)) (s q)) (m ∷ []) ms
-                  ∙ subst (λ (x : ℕ). keep (by x) (s q) ++ m ∷ ms ≡ sent s x) (sym (o .1)) e,
-            ))
-            (λ z. rw (others-accepted st (s q) r m d (neqb→ne r (m .sender) z)) (w .faithful r q lr lq d));
-      }
-
-  in-width : L .feeder ≤ 255 → (p : ℕ) → p < L .posts → (m : Message) → In m (s p) → InWidth (L .feeder) m
-  in-width f p l m i =
+module _ (L : Line) (f : L .feeder ≤ 255) (s : Feeder) (w : Ran L s) where
+  in-width : (p : ℕ) → p < L .posts → (m : Message) → In m (s p) → InWidth (L .feeder) m
+  in-width p l m i =
       let g = w .kept p l .good .sorted in
       let t = g .proper m i in
       let a = t .sender in
@@ -139,37 +155,35 @@ module _ (L : Line) (s : Feeder) (w : Ran L s) where
       let k = leb→le (m .kind) 3 (and-r (leb 1 (m .kind)) (leb (m .kind) 3) (t .kind)) in
       record { feeder = omega arith; kind = omega arith; sender = omega arith; counter = omega arith }
 
-  pub ran-act : L .feeder ≤ 255 → (a : Act) → Ran L (after L s (made L s a))
+  -- the next message of p is offered to q
+  ran-offer : (p q : ℕ) → p < L .posts → q < L .posts → (ms : List Message) → had s p q ++ ms ≡ sent s p → Ran L (after L s (offered L q ms))
+  ran-offer p q lp lq [] e = w
+  ran-offer p q lp lq (m ∷ ms) e =
+      let i = follower L s q m (p, lp, ms, e) .0 in
+      let back : m ≡ fieldsOf (frame (L .feeder) m) .message = sym (ap (λ (x : Fields). x .message) (frame-fields (L .feeder) m (in-width p lp m i))) in
+      ran-call L s w q lq (receive-call (frame (L .feeder) m) buffer) (subst (Follows L s q) back (p, lp, ms, e))
+
+  ran-act : (a : Act) → Ran L (after L s (made L s a))
   unfolding made pending
-  ran-act f (takeAt p) =
-      cond-both (λ x. Ran L (after L s x)) (ltb p (L .posts)) (at-post p _) none
-      (λ y.
-      let l = ltb→lt p (L .posts) y in
-      ran-with p _ (took-next (start L p) (s p) buffer (Next L s p) (next-same p l) (λ z c. next-say p 1 l c (took z c))))
+  ran-act (takeAt p) =
+      cond-both (λ x. Ran L (after L s x)) (ltb p (L .posts)) (at-post p (take-call buffer)) none
+      (λ y. ran-call L s w p (ltb→lt p (L .posts) y) (take-call buffer) tt)
       (λ n. w)
-  ran-act f (returnAt p) =
-      cond-both (λ x. Ran L (after L s x)) (ltb p (L .posts)) (at-post p _) none
-      (λ y.
-      let l = ltb→lt p (L .posts) y in
-      ran-with p _ (returned-next (start L p) (s p) buffer (Next L s p) (next-same p l) (λ z c. next-say p 2 l c (gave-back z c))))
+  ran-act (returnAt p) =
+      cond-both (λ x. Ran L (after L s x)) (ltb p (L .posts)) (at-post p (return-call buffer)) none
+      (λ y. ran-call L s w p (ltb→lt p (L .posts) y) (return-call buffer) tt)
       (λ n. w)
-  ran-act f (deliver p q) =
+  ran-act (deliver p q) =
       cond-both (λ x. Ran L (after L s x)) (ltb p (L .posts) && (ltb q (L .posts) && not (eqb p q))) (offered L q (pending s p q)) none
       (λ y.
       let lp = ltb→lt p (L .posts) (and-l (ltb p (L .posts)) _ y) in
       let z = and-r (ltb p (L .posts)) _ y in
       let lq = ltb→lt q (L .posts) (and-l (ltb q (L .posts)) _ z) in
       let b = w .faithful p q lp lq (neqb→ne p q (and-r (ltb q (L .posts)) _ z)) in
-      each lp lq (pending s p q) (begins-drop (had s p q) (sent s p) b))
+      ran-offer p q lp lq (pending s p q) (begins-drop (had s p q) (sent s p) b))
       (λ n. w)
-    where
-      each : p < L .posts → q < L .posts → (ms : List Message) → had s p q ++ ms ≡ sent s p → Ran L (after L s (offered L q ms))
-      each lp lq [] e = w
-      each lp lq (m ∷ ms) e =
-          let m-back = ap (λ (x : Fields). x .message) (frame-fields (L .feeder) m (in-width f p lp m (of-sender p q m ms e .0))) in
-          ran-with q _ (received-next (start L q) (s q) (frame (L .feeder) m) buffer m m-back (Next L s q) (next-same q lq) (next-accept p q lp lq m ms e))
 
-pub ran-fresh : (L : Line) → L .posts ≤ 16 → Ran L fresh
+ran-fresh : (L : Line) → L .posts ≤ 16 → Ran L fresh
 unfolding keep
 ran-fresh L few = record {
   kept = λ p l. kept-empty (start L p) (record { few = few; mine = l });
@@ -177,7 +191,10 @@ ran-fresh L few = record {
   faithful = λ p q lp lq d. ([], refl);
 }
 
-pub ran : (L : Line) → L .feeder ≤ 255 → (acts : List Act) (s : Feeder) → Ran L s → Ran L (run L s acts)
+ran-on : (L : Line) → L .feeder ≤ 255 → (acts : List Act) (s : Feeder) → Ran L s → Ran L (run L s acts)
 unfolding run
-ran L f [] s w = w
-ran L f (a ∷ acts) s w = ran L f acts (after L s (made L s a)) (ran-act L s w f a)
+ran-on L f [] s w = w
+ran-on L f (a ∷ acts) s w = ran-on L f acts (after L s (made L s a)) (ran-act L f s w a)
+
+pub ran : (L : Line) → L .posts ≤ 16 → L .feeder ≤ 255 → (acts : List Act) → Ran L (run L fresh acts)
+ran L few f acts = ran-on L f acts fresh (ran-fresh L few)
