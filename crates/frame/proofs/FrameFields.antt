@@ -1,7 +1,7 @@
 -- The fields of a message's frame are mark, version 1, feeder and the message. Assumes nothing.
 use Prim.Native.Nat.{ℕ}
 use mathlib.Core.Path.{_≡_, ap}
-use mathlib.Core.List.{[], _∷_}
+use mathlib.Core.List.{List, [], _∷_}
 use lib.Dec.{lit<}
 use Rattle.laws.proofs.BigLaws.{fields-back}
 use Rattle.frame.specs.declared.Message.{Message}
@@ -11,5 +11,5 @@ use Rattle.frame.proofs.Frames.{InWidth}
 pub frame-fields : (f : ℕ) (m : Message) → InWidth f m → fieldsOf (frame f m) ≡ record { mark = mark; version = 1; feeder = f; message = m }
 unfolding fieldsOf frame
 frame-fields f m h =
-    ap fieldsFrom
-    (fields-back widths (mark ∷ 1 ∷ f ∷ m .kind ∷ m .sender ∷ m .counter ∷ []) (lit< tt, (lit< tt, (h .feeder, (h .kind, (h .sender, (h .counter, tt)))))))
+    let vs : List ℕ = mark ∷ 1 ∷ f ∷ m .kind ∷ m .sender ∷ m .counter ∷ [] in
+    ap fieldsFrom (fields-back widths vs (lit< tt, (lit< tt, (h .feeder, (h .kind, (h .sender, (h .counter, tt)))))))

@@ -23,6 +23,12 @@ use Rattle.queue.proofs.Good.{le-last}
 use Rattle.queue.proofs.Heard.{at-heard}
 use Rattle.queue.proofs.Agree.{Sound, was-sent}
 
+return-counted : (m : Message) → (counted m && isReturn m) ≡ isReturn m
+return-counted m =
+    same-test (counted m && isReturn m) (isReturn m)
+    (and-r (counted m) (isReturn m))
+    (λ t. yes-and (counted m) (isReturn m) (or-r (isTake m) (isReturn m) t) t)
+
 module _ (L : Line) (s : Feeder) (w : Sound L s) (clear : Cleared L s) where
   -- what one post has, each has
   shared : (p q : ℕ) → p < L .posts → q < L .posts → (m : Message) → In m (s p) → In m (s q)
@@ -62,8 +68,7 @@ module _ (L : Line) (s : Feeder) (w : Sound L s) (clear : Cleared L s) where
       let b = sumTo-cong (L .posts) (λ r. many isReturn (had s r p)) (λ r. many isReturn (sent s r)) (λ r lr. ap (many isReturn) (clear r p lr lp)) in
       let c = ap (many isReturn) (all-settled p p lp lp) in
       let d = ap length (keep-keep isReturn counted (s p)) in
-      let e = ap length (keep-cong (λ m. counted m && isReturn m) isReturn (s p) (λ m i.
-      same-test (counted m && isReturn m) (isReturn m) (and-r (counted m) (isReturn m)) (λ t. yes-and (counted m) _ (or-r (isTake m) (isReturn m) t) t))) in
+      let e = ap length (keep-cong (λ m. counted m && isReturn m) isReturn (s p) (λ m i. return-counted m)) in
       omega arith
 
   pub exactly : (p q : ℕ) → p < L .posts → q < L .posts → (t : Message)

@@ -48,7 +48,8 @@ module _ (st : Start) (q q′ : Queue) (l : Later st q q′) where
 
   pub number-stays : (m : Message) → In m (takes st q) → number st q′ m ≡ number st q m
   number-stays m i =
-      upto-begins stamp (takes st q) (takes st q′) (begins-keep isTake (settled st q) (settled st q′) settled-grows) (takes-rising st q′ (l .after)) m i
+      let b = begins-keep isTake (settled st q) (settled st q′) settled-grows in
+      upto-begins stamp (takes st q) (takes st q′) b (takes-rising st q′ (l .after)) m i
 
   pub room-grows : room st q ≤ room st q′
   unfolding room

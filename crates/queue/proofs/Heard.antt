@@ -40,6 +40,9 @@ module _ (st : Start) (q : Queue) where
   unfolding settled
   in-settled m i c h = in-keep (λ x. counted x && heard st q x) m q i (yes-and (counted m) (heard st q m) c h)
 
+  pub takes-in : (m : Message) → In m (takes st q) → In m q
+  takes-in m i = settled-in m (keep-in isTake m (settled st q) i .0) .0
+
   pub settled-rising : Rising stamp q → Rising stamp (settled st q)
   unfolding settled
   settled-rising r = rising-keep stamp (λ x. counted x && heard st q x) q r

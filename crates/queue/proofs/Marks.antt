@@ -43,10 +43,16 @@ module _ (st : Start) (q : Queue) (g : Good st q) where
   old-take : (m : Message) → New st q m → (x : Message) → In x (accept st q m) → T (by (st .own) x) → T (isTake x) → In x q
   unfolding accept saying
   old-take m w x i o y =
-      let p = put stamp m q in
-      let mine = eqb→eq (x .sender) (st .own) o in
-      let came : In x p → In x q = λ j. ⊎-elim (λ d. absurd (w .other (sym (ap (λ (z : Message). z .sender) d) ∙ mine))) (λ k. k) (in-put stamp m x q j) in
       cond-both (λ (l : Queue). In x l → In x q) (acks m) (say st 3 p) p (λ c j. ⊎-elim (λ d. absurd (take-cast d y)) came (in-say st 3 p x j)) (λ c. came) i
+    where
+      p : Queue
+      p = put stamp m q
+
+      other : x ≡ m → ⊥
+      other d = w .other (sym (ap (λ (z : Message). z .sender) d) ∙ eqb→eq (x .sender) (st .own) o)
+
+      came : In x p → In x q
+      came j = ⊎-elim (λ d. absurd (other d)) (λ k. k) (in-put stamp m x q j)
 
   same-latest : (q′ : Queue) → latest st q′ ≡ latest st q → T (holds st q) ↔ In (latest st q′) (grants st q)
   same-latest q′ e = (λ z. in-cast (grants st q) (sym e) (holding-latest st q z), λ i. latest-holding st q (in-cast (grants st q) e i))
@@ -130,7 +136,8 @@ module _ (st : Start) (q q′ : Queue) (l : Later st q q′) (c : Step st q q′
       old : (a : Message) → In a (grants st q′) → a ≡ latest st q′ → In a (grants st q)
       old a i e =
           let z = latest-holding st q′ (in-cast (grants st q′) e i) in
-          in-cast (grants st q) (sym e) (test (holds st q) (c .held z .0) (λ k. absurd (T-not (grantCame st q q′) n (yes-and (not (holds st q)) _ k z))))
+          in-cast (grants st q) (sym e)
+          (test (holds st q) (c .held z .0) (λ k. absurd (T-not (grantCame st q q′) n (yes-and (not (holds st q)) _ k z))))
 
   pub grants-step : grants st q′ ≡ grants st q ++ markList st q q′
   grants-step =

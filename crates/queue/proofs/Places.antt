@@ -11,13 +11,13 @@ use mir.Facts.{yes-and}
 use Rattle.laws.specs.Lists.{In, keep, many, Begins, Rising, upto}
 use Rattle.laws.proofs.Tests.{test, and-l, and-r, neqb→ne, leb-total}
 use Rattle.laws.proofs.BelowLaws.{sumTo-le, sumTo-zero}
-use Rattle.laws.proofs.ListLaws.{keep-in, keep-keep, many-le, begins-refl, begins-trans, begins-keep, begins-length, parts}
+use Rattle.laws.proofs.ListLaws.{keep-keep, many-le, begins-refl, begins-trans, begins-keep, begins-length, parts}
 use Rattle.laws.proofs.RisingLaws.{upto-begins, upto-few}
 use Rattle.frame.specs.declared.Message.{Message}
 use Rattle.frame.specs.Message.{isTake, isReturn, counted, stamp, by}
-use Rattle.queue.specs.Queue.{heard, settled, takes, room, grants}
+use Rattle.queue.specs.Queue.{heard, settled, takes, number, room, grants}
 use Rattle.queue.specs.Feeder.{Line, start, Feeder, sent, had, returnsSent, granted}
-use Rattle.queue.proofs.Heard.{settled-in, takes-rising}
+use Rattle.queue.proofs.Heard.{takes-in, takes-rising}
 use Rattle.queue.proofs.Agree.{Sound, one-order}
 
 module _ (L : Line) (s : Feeder) (w : Sound L s) where
@@ -76,32 +76,38 @@ module _ (L : Line) (s : Feeder) (w : Sound L s) where
       let c = many-le (λ m. f m && isReturn m) isReturn (s p) (λ m i. and-r (f m) (isReturn m)) in
       omega arith
 
-  -- a post's granted takes are own ones that have a number up to x in any list which its settled takes begin
-  grants-le : (x p : ℕ) (t : List Message) → Rising stamp t → Begins (takes (start L p) (s p)) t → room (start L p) (s p) ≤ x
-      → length (grants (start L p) (s p)) ≤ many (λ m. leb (upto stamp t m) x) (keep (by p) t)
+  -- a post's granted takes are own takes that have a number up to x in any list which its settled list begins
+  grants-le : (x p : ℕ) (t : List Message) → Rising stamp (keep isTake t) → Begins (settledAt p) t → room (start L p) (s p) ≤ x
+      → length (grants (start L p) (s p)) ≤ many (λ m. leb (upto stamp (keep isTake t) m) x) (keep (by p) (keep isTake t))
   unfolding grants
   grants-le x p t r b h =
       let one = many-le f g mine fits in
-      let two = begins-length (keep g mine) (keep g t) (begins-keep g mine t b) in
-      let three = ap length (keep-keep (λ m. leb (upto stamp t m) x) (by p) t) in
+      let two = begins-length (keep g mine) (keep g all) (begins-keep g mine all begins) in
+      let three = ap length (keep-keep (λ m. leb (upto stamp all m) x) (by p) all) in
       omega arith
     where
       mine : List Message
       mine = takes (start L p) (s p)
 
+      all : List Message
+      all = keep isTake t
+
+      begins : Begins mine all
+      begins = begins-keep isTake (settledAt p) t b
+
       f : Message → Bool
       f m = by p m && leb (upto stamp mine m) (room (start L p) (s p))
 
       g : Message → Bool
-      g m = by p m && leb (upto stamp t m) x
+      g m = by p m && leb (upto stamp all m) x
 
       fits : (m : Message) → In m mine → T (f m) → T (g m)
       fits m i y =
           let u = leb→le (upto stamp mine m) (room (start L p) (s p)) (and-r (by p m) _ y) in
-          let e = upto-begins stamp mine t b r m i in
-          yes-and (by p m) _ (and-l (by p m) _ y) (le→leb (upto stamp t m) x (omega arith))
+          let e = upto-begins stamp mine all begins r m i in
+          yes-and (by p m) _ (and-l (by p m) _ y) (le→leb (upto stamp all m) x (omega arith))
 
-  -- all takes granted have different numbers in the longest list
+  -- all granted takes have different numbers in the longest list
   numbered : 0 < L .posts → granted L s ≤ L .places + returnsSent L s
   unfolding granted
   numbered z =
@@ -109,16 +115,12 @@ module _ (L : Line) (s : Feeder) (w : Sound L s) where
       let b = longest (pred (L .posts)) (omega arith) in
       let st = start L (b .post) in
       let q = s (b .post) in
-      let all = takes st q in
       let g = w .good (b .post) (b .there) .sorted in
       let up = takes-rising st q (g .rising) in
-      let begins : (p : ℕ) → p < L .posts → Begins (takes (start L p) (s p)) all =
-      λ p l. begins-keep isTake (settledAt p) (settledAt (b .post)) (b .covers p (omega arith)) in
-      let senders : (m : Message) → In m all → m .sender < L .posts =
-      λ m i. g .proper m (settled-in st q m (keep-in isTake m (settled st q) i .0) .0) .sender in
-      let one = sumTo-le (L .posts) _ _ (λ p l. grants-le x p all up (begins p l) (room-le p l)) in
-      let two = parts (λ m. m .sender) (L .posts) (λ m. leb (upto stamp all m) x) all senders in
-      let three = upto-few stamp all x up in
+      let one = sumTo-le (L .posts) _ _ (λ p l. grants-le x p (settledAt (b .post)) up (b .covers p (omega arith)) (room-le p l)) in
+      let few : Message → Bool = λ m. leb (number st q m) x in
+      let two = parts (λ m. m .sender) (L .posts) few (takes st q) (λ m i. g .proper m (takes-in st q m i) .sender) in
+      let three = upto-few stamp (takes st q) x up in
       omega arith
 
   pub never-more : granted L s ≤ L .places + returnsSent L s

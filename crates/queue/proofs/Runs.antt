@@ -6,7 +6,7 @@ use mathlib.Core.Bool.{not, _&&_}
 use mathlib.Core.List.{List, [], _∷_, _++_, append-assoc}
 use Prim.Native.Nat.{ℕ, _≤_, _<_}
 use native.Mathlib.Omega.{arith}
-use lib.Dec.{T, leb, ltb, eqb, leb→le, ltb→lt, eqb→eq}
+use lib.Dec.{leb, ltb, eqb, leb→le, ltb→lt, eqb→eq}
 use Rattle.laws.specs.Lists.{In, keep, Begins, put}
 use Rattle.laws.proofs.Tests.{test, cond-both, and-l, and-r, neqb→ne}
 use Rattle.laws.proofs.ListLaws.{in-right, keep-in, begins-refl, begins-trans, begins-drop}
@@ -22,7 +22,7 @@ use Rattle.queue.specs.Calls.{Call, take-call, return-call, receive-call
 use Rattle.queue.specs.Feeder.{Line, start, Feeder, fresh, sent, had, pending, Act, takeAt, returnAt, deliver, none, at-post}
 use Rattle.queue.specs.Feeder.{buffer, offered, made, with-queue, after, run}
 use Rattle.queue.specs.Demand3.{Faithful}
-use Rattle.queue.proofs.Good.{New, le-clock, in-say}
+use Rattle.queue.proofs.Good.{New, le-clock}
 use Rattle.queue.proofs.Changes.{Change, unchanged, took, gave-back, accepted, change}
 use Rattle.queue.proofs.Parts.{others-said, others-accepted, own-said, own-accepted, sender-accepted}
 use Rattle.queue.proofs.Holding.{Kept, kept-change, kept-empty}
@@ -30,6 +30,28 @@ use Rattle.queue.proofs.Holding.{Kept, kept-change, kept-empty}
 -- counters fit their four bytes
 abbrev Small : Queue → Type 0
 Small q = (m : Message) → In m q → m .counter ≤ lastCounter
+
+small-put : (m : Message) (q : Queue) → m .counter ≤ lastCounter → Small q → Small (put stamp m q)
+small-put m q c h x i = ⊎-elim (λ e. let k = ap (λ (z : Message). z .counter) e in omega arith) (h x) (in-put stamp m x q i)
+
+small-say : (st : Start) (kind : ℕ) (q : Queue) → clock q < lastCounter → Small q → Small (say st kind q)
+unfolding say saying
+small-say st kind q c h = small-put (saying st kind q) q c h
+
+clock-put : (m : Message) (q : Queue) (n : ℕ) → m .counter < n → clock q < n → clock (put stamp m q) < n
+unfolding clock
+clock-put m q n a b =
+    top-lt (λ z. z .counter) (put stamp m q) n (omega arith) (λ x i.
+    ⊎-elim (λ e. let k = ap (λ (z : Message). z .counter) e in omega arith) (λ j. let k = le-clock q x j in omega arith) (in-put stamp m x q i))
+
+small-accept : (st : Start) (q : Queue) (m : Message) → New st q m → m .counter ≤ lastCounter → Small q → Small (accept st q m)
+unfolding accept
+small-accept st q m n c h =
+    let p = put stamp m q in
+    let s = small-put m q c h in
+    cond-both Small (acks m) (say st 3 p) p (λ y. small-say st 3 p (clock-put m q lastCounter (n .room y .1) (n .room y .0)) s) (λ z. s)
+
+-- ---- what holds after every act
 
 pub record Ran (L : Line) (s : Feeder) : Type 0 where
   pub kept : (p : ℕ) → p < L .posts → Kept (start L p) (s p)
@@ -65,53 +87,31 @@ module _ (L : Line) (s : Feeder) (w : Ran L s) (p : ℕ) (l : p < L .posts) wher
   st = start L p
 
   next-say : (kind : ℕ) → clock (s p) < lastCounter → Kept st (say st kind (s p)) → Next L s p (say st kind (s p))
-  unfolding saying
   next-say kind c k = record {
     kept = k;
-    small = λ m i. ⊎-elim (λ e. let h = ap (λ (x : Message). x .counter) e in omega arith) (w .small p l m) (in-say st kind (s p) m i);
+    small = small-say st kind (s p) c (w .small p l);
     own = own-said st (s p) (w .kept p l .good .sorted) kind;
     others = λ r lr n. rw (others-said st (s p) kind r n) (w .faithful r p lr l n);
   }
 
-  small-accept : (m : Message) → New st (s p) m → m .counter ≤ lastCounter → Small (accept st (s p) m)
-  unfolding accept saying clock
-  small-accept m n c = cond-both Small (acks m) (say st 3 q) q (λ y x i. ⊎-elim (acknowledged y x) (came x) (in-say st 3 q x i)) (λ z. came)
-    where
-      q : Queue
-      q = put stamp m (s p)
-
-      came : Small q
-      came x i = ⊎-elim (λ e. let h = ap (λ (z : Message). z .counter) e in omega arith) (w .small p l x) (in-put stamp m x (s p) i)
-
-      acknowledged : T (acks m) → (x : Message) → x ≡ saying st 3 q → x .counter ≤ lastCounter
-      acknowledged y x e =
-          let a = n .room y .0 in
-          let b = n .room y .1 in
-          let below : (z : Message) → In z q → z .counter < lastCounter =
-          λ z j. ⊎-elim (λ d. let h = ap (λ (u : Message). u .counter) d in omega arith) (λ k. let h = le-clock (s p) z k in omega arith) (in-put stamp m z (s p) j) in
-          let t = top-lt (λ z. z .counter) q lastCounter (omega arith) below in
-          let h = ap (λ (z : Message). z .counter) e in
-          omega arith
+  sender-begins : (m : Message) → Follows L s p m → New st (s p) m → Begins (keep (by (m .sender)) (accept st (s p) m)) (sent s (m .sender))
+  sender-begins m b n = (
+    b .2,
+    ap (λ (t : List Message). t ++ b .2) (sender-accepted st (s p) (w .kept p l .good .sorted) m n)
+        ∙ append-assoc (keep (by (m .sender)) (s p)) (m ∷ []) (b .2)
+        ∙ subst (λ (x : ℕ). keep (by x) (s p) ++ m ∷ b .2 ≡ sent s x) (sym (follower L s p m b .1)) (b .3),
+  )
 
   next-accept : (m : Message) → Follows L s p m → New st (s p) m → Kept st (accept st (s p) m) → Next L s p (accept st (s p) m)
-  next-accept m b n k =
-      let g = w .kept p l .good .sorted in
-      let f = follower L s p m b in
-      let joined : keep (by (m .sender)) (s p) ++ m ∷ b .2 ≡ sent s (m .sender) =
-      subst (λ (x : ℕ). keep (by x) (s p) ++ m ∷ b .2 ≡ sent s x) (sym (f .1)) (b .3) in
-      let more : Begins (keep (by (m .sender)) (accept st (s p) m)) (sent s (m .sender)) = (
-        b .2,
-        ap (λ (t : List Message). t ++ b .2) (sender-accepted st (s p) g m n) ∙ append-assoc (keep (by (m .sender)) (s p)) (m ∷ []) (b .2) ∙ joined,
-      ) in
-      record {
-        kept = k;
-        small = small-accept m n (w .small (b .0) (b .1) m (f .0));
-        own = own-accepted st (s p) g m n;
-        others = λ r lr d.
-            test (eqb r (m .sender))
-            (λ y. subst (λ (x : ℕ). Begins (keep (by x) (accept st (s p) m)) (sent s x)) (sym (eqb→eq r (m .sender) y)) more)
-            (λ z. rw (others-accepted st (s p) r m d (neqb→ne r (m .sender) z)) (w .faithful r p lr l d));
-      }
+  next-accept m b n k = record {
+    kept = k;
+    small = small-accept st (s p) m n (w .small (b .0) (b .1) m (follower L s p m b .0)) (w .small p l);
+    own = own-accepted st (s p) (w .kept p l .good .sorted) m n;
+    others = λ r lr d.
+        test (eqb r (m .sender))
+        (λ y. subst (λ (x : ℕ). Begins (keep (by x) (accept st (s p) m)) (sent s x)) (sym (eqb→eq r (m .sender) y)) (sender-begins m b n))
+        (λ z. rw (others-accepted st (s p) r m d (neqb→ne r (m .sender) z)) (w .faithful r p lr l d));
+  }
 
   next : (c : Call) (q : Queue) → Brings L s p c → Change st (s p) c q → Kept st q → Next L s p q
   next c q b unchanged k = record { kept = k; small = w .small p l; own = begins-refl (sent s p); others = λ r lr d. w .faithful r p lr l d }
@@ -122,7 +122,9 @@ module _ (L : Line) (s : Feeder) (w : Ran L s) (p : ℕ) (l : p < L .posts) wher
   ran-with : (q : Queue) → Next L s p q → Ran L (with-queue s p q)
   ran-with q n = record {
     kept = λ r lr.
-        cond-both (Kept (start L r)) (eqb r p) q (s r) (λ y. subst (λ (x : ℕ). Kept (start L x) q) (sym (eqb→eq r p y)) (n .kept)) (λ z. w .kept r lr);
+        cond-both (Kept (start L r)) (eqb r p) q (s r)
+        (λ y. subst (λ (x : ℕ). Kept (start L x) q) (sym (eqb→eq r p y)) (n .kept))
+        (λ z. w .kept r lr);
     small = λ r lr. cond-both Small (eqb r p) q (s r) (λ y. n .small) (λ z. w .small r lr);
     faithful = λ a b la lb d.
         cond-both (λ x. Begins (keep (by a) x) (sent (with-queue s p q) a)) (eqb b p) q (s b)
@@ -130,7 +132,10 @@ module _ (L : Line) (s : Feeder) (w : Ran L s) (p : ℕ) (l : p < L .posts) wher
         cond-both (λ x. Begins (keep (by a) q) (keep (by a) x)) (eqb a p) q (s a)
         (λ z. absurd (d (eqb→eq a p z ∙ sym (eqb→eq b p y))))
         (λ z. n .others a la (neqb→ne a p z)))
-        (λ y. cond-both (λ x. Begins (had s a b) (keep (by a) x)) (eqb a p) q (s a) (λ z. longer a b lb d (eqb→eq a p z)) (λ z. w .faithful a b la lb d));
+        (λ y.
+        cond-both (λ x. Begins (had s a b) (keep (by a) x)) (eqb a p) q (s a)
+        (λ z. longer a b lb d (eqb→eq a p z))
+        (λ z. w .faithful a b la lb d));
   }
     where
       longer : (a b : ℕ) → b < L .posts → (a ≡ b → ⊥) → a ≡ p → Begins (had s a b) (keep (by a) q)
@@ -160,8 +165,8 @@ module _ (L : Line) (f : L .feeder ≤ 255) (s : Feeder) (w : Ran L s) where
   ran-offer p q lp lq [] e = w
   ran-offer p q lp lq (m ∷ ms) e =
       let i = follower L s q m (p, lp, ms, e) .0 in
-      let back : m ≡ fieldsOf (frame (L .feeder) m) .message = sym (ap (λ (x : Fields). x .message) (frame-fields (L .feeder) m (in-width p lp m i))) in
-      ran-call L s w q lq (receive-call (frame (L .feeder) m) buffer) (subst (Follows L s q) back (p, lp, ms, e))
+      let back = ap (λ (x : Fields). x .message) (frame-fields (L .feeder) m (in-width p lp m i)) in
+      ran-call L s w q lq (receive-call (frame (L .feeder) m) buffer) (subst (Follows L s q) (sym back) (p, lp, ms, e))
 
   ran-act : (a : Act) → Ran L (after L s (made L s a))
   unfolding made pending
