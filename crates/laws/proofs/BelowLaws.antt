@@ -41,6 +41,8 @@ unfolding sumTo
 sumTo-zero zero = refl
 sumTo-zero (suc n) = let b = sumTo-zero n in omega arith
 
+-- ---- ones
+
 one-yes : (b : Bool) → T b → one? b ≡ 1
 one-yes true t = refl
 one-yes false t = absurd t
@@ -57,7 +59,7 @@ one-eqb m n d = go (eqb m n) (λ t. d (eqb→eq m n t))
     go true f = absurd (f tt)
     go false f = refl
 
--- over the numbers up to k, one is k
+-- of the numbers below n none is k, or one
 one-none : (n k : ℕ) → n ≤ k → sumTo n (λ i. one? (eqb k i)) ≡ 0
 unfolding sumTo
 one-none zero k h = refl

@@ -143,12 +143,14 @@ module _ {A : Type 0} (who : A → ℕ) (n : ℕ) (g : A → Bool) where
       go true = sumTo-cong n _ _ (λ p l. ap one? (and-true (part p x))) ∙ one-below n (who x) h
       go false = sumTo-cong n _ _ (λ p l. ap one? (and-false (part p x))) ∙ sumTo-zero n
 
+  split : (p : ℕ) (x : A) (xs : List A) → many g (keep (part p) (x ∷ xs)) ≡ one? (part p x && g x) + many g (keep (part p) xs)
+  split p x xs = rw (keep-keep g (part p) (x ∷ xs), keep-keep g (part p) xs) (many-cons (λ a. part p a && g a) x xs)
+
   pub parts : (l : List A) → ((a : A) → In a l → who a < n) → sumTo n (λ p. many g (keep (part p) l)) ≡ many g l
   unfolding keep
   parts [] h = sumTo-zero n
   parts (x ∷ xs) h =
-      let a = sumTo-cong n (λ p. many g (keep (part p) (x ∷ xs))) (λ p. one? (part p x && g x) + many g (keep (part p) xs))
-      (λ p l. rw (keep-keep g (part p) (x ∷ xs), keep-keep g (part p) xs) (many-cons (λ a. part p a && g a) x xs)) in
+      let a = sumTo-cong n _ (λ p. one? (part p x && g x) + many g (keep (part p) xs)) (λ p l. split p x xs) in
       let b = sumTo-add n (λ p. one? (part p x && g x)) (λ p. many g (keep (part p) xs)) in
       let c = parts xs (λ a m. h a (inr m)) in
       let d = first x (h x (inl refl)) in

@@ -165,7 +165,8 @@ module _ {A : Type 0} (key : A → ℕ) where
   upto-begins s t b r a i =
       let f : A → Bool = λ x. leb (key x) (key a) in
       let up : Rising key (s ++ b .0) = subst (Rising key) (sym (b .1)) r in
-      let e : keep f (b .0) ≡ [] = keep-none f (b .0) (λ x j. not-T (f x) (λ y. clash (rising-seam s (b .0) up a x i j) (leb→le (key x) (key a) y))) in
+      let above : (x : A) → In x (b .0) → T (not (f x)) = λ x j. not-T (f x) (λ y. clash (rising-seam s (b .0) up a x i j) (leb→le (key x) (key a) y)) in
+      let e : keep f (b .0) ≡ [] = keep-none f (b .0) above in
       ap (many f) (sym (b .1)) ∙ rw (keep-append f s (b .0), e, append-nil (keep f s))
 
   upto-head : (x : A) (xs : List A) (a : A) → key x ≤ key a → upto key (x ∷ xs) a ≡ suc (upto key xs a)

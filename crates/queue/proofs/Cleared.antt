@@ -2,11 +2,11 @@
 -- number is at most the places plus the returns. Assumes nothing.
 use mathlib.Core.Path.{_≡_, sym, ap, _∙_, subst}
 use mathlib.Core.Logic.{_↔_}
-use mathlib.Core.Bool.{Bool, _&&_}
+use mathlib.Core.Bool.{_&&_}
 use mathlib.Core.List.{List}
 use Prim.Native.Nat.{ℕ, _+_, _≤_, _<_}
 use native.Mathlib.Omega.{arith}
-use lib.Dec.{T, leb, eqb, leb→le, le→leb, eqb→eq, eqb-refl}
+use lib.Dec.{T, eqb, leb→le, le→leb, eqb→eq, eqb-refl}
 use lib.ListN.{length}
 use mir.Facts.{yes-and}
 use Rattle.laws.specs.Lists.{In, keep, many, upto}
@@ -57,8 +57,7 @@ module _ (L : Line) (s : Feeder) (w : Sound L s) (clear : Cleared L s) where
   pub all-settled : (p q : ℕ) → p < L .posts → q < L .posts → settled (start L p) (s p) ≡ keep counted (s q)
   unfolding settled
   all-settled p q lp lq =
-      keep-cong (λ m. counted m && heard (start L p) (s p) m) counted (s p) (λ m i.
-      same-test (counted m && heard (start L p) (s p) m) (counted m) (and-l (counted m) _) (λ c. yes-and (counted m) _ c (all-heard p lp m i c)))
+      keep-cong _ counted (s p) (λ m i. same-test _ (counted m) (and-l (counted m) _) (λ c. yes-and (counted m) _ c (all-heard p lp m i c)))
       ∙ ap (keep counted) (one-queue p q lp lq)
 
   room-is : (p : ℕ) → p < L .posts → room (start L p) (s p) ≡ L .places + returnsSent L s
@@ -76,19 +75,16 @@ module _ (L : Line) (s : Feeder) (w : Sound L s) (clear : Cleared L s) where
   unfolding grants
   exactly p q lp lq t = (
     λ i.
-        let k = keep-in fits t (takes (start L p) (s p)) i in
+        let k = keep-in _ t (takes (start L p) (s p)) i in
         let l = leb→le (number (start L p) (s p) t) (room (start L p) (s p)) (and-r (by p t) _ (k .1)) in
         (subst (λ (l : List Message). In t (keep isTake l)) same (k .0), eqb→eq (t .sender) p (and-l (by p t) _ (k .1)), omega (arith, n, r)),
     λ x.
         let l = x .2 in
-        in-keep fits t (takes (start L p) (s p)) (subst (λ (l : List Message). In t (keep isTake l)) (sym same) (x .0))
+        in-keep _ t (takes (start L p) (s p)) (subst (λ (l : List Message). In t (keep isTake l)) (sym same) (x .0))
         (yes-and (by p t) _ (subst (λ (z : ℕ). T (eqb (t .sender) z)) (x .1) (eqb-refl (t .sender)))
         (le→leb (number (start L p) (s p) t) (room (start L p) (s p)) (omega (arith, n, r)))),
   )
     where
-      fits : Message → Bool
-      fits m = by p m && leb (number (start L p) (s p) m) (room (start L p) (s p))
-
       same : settled (start L p) (s p) ≡ settled (start L q) (s q)
       same = all-settled p q lp lq ∙ sym (all-settled q q lq lq)
 

@@ -15,17 +15,18 @@ use Rattle.frame.specs.Message.{counted, known, lastCounter, stamp, by}
 use Rattle.queue.specs.Queue.{Start, Queue, clock, last}
 use Rattle.queue.specs.Calls.{saying, say, acks, accept}
 
--- a start's numbers
+-- a post of a feeder, which has at most 16
 pub record Fit (st : Start) : Type 0 where
   pub few : st .posts ≤ 16
   pub mine : st .own < st .posts
 
--- a message as posts send them
+-- a message as a post may send it
 pub record Proper (st : Start) (m : Message) : Type 0 where
   pub sender : m .sender < st .posts
   pub counter : 0 < m .counter
   pub kind : T (known (m .kind))
 
+-- sorted by stamp
 pub record Sorted (st : Start) (q : Queue) : Type 0 where
   pub fit : Fit st
   pub rising : Rising stamp q

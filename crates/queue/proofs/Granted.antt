@@ -32,7 +32,7 @@ pub take-cast : {a b : Message} → a ≡ b → T (isTake a) → T (isTake b)
 take-cast e t = subst (λ (x : Message). T (isTake x)) e t
 
 -- the post's own takes and returns
-abbrev pub ownCounted : Start → Message → Bool
+abbrev ownCounted : Start → Message → Bool
 ownCounted st m = by (st .own) m && counted m
 
 -- what stands for the latest before there is one
@@ -40,16 +40,13 @@ abbrev before : Start → Message
 before st = msg 2 (st .own) 0
 
 module _ (st : Start) (q : Queue) where
-  abbrev fits : Message → Bool
-  fits m = by (st .own) m && leb (number st q m) (room st q)
-
   pub in-takes : (m : Message) → In m q → T (isTake m) → T (heard st q m) → In m (takes st q)
   in-takes m i t h = in-keep isTake m (settled st q) (in-settled st q m i (or-l (isTake m) (isReturn m) t) h) t
 
   pub grants-in : (m : Message) → In m (grants st q) → Granted st q m
   unfolding grants
   grants-in m i =
-      let a = keep-in fits m (takes st q) i in
+      let a = keep-in _ m (takes st q) i in
       let b = keep-in isTake m (settled st q) (a .0) in
       let c = settled-in st q m (b .0) in
       record {
@@ -63,12 +60,12 @@ module _ (st : Start) (q : Queue) where
   pub in-grants : (m : Message) → Granted st q m → In m (grants st q)
   unfolding grants
   in-grants m g =
-      in-keep fits m (takes st q) (in-takes m (g .here) (g .take) (g .heard-there))
+      in-keep _ m (takes st q) (in-takes m (g .here) (g .take) (g .heard-there))
       (yes-and (by (st .own) m) _ (g .own) (le→leb (number st q m) (room st q) (g .fits)))
 
   pub grants-rising : Rising stamp q → Rising stamp (grants st q)
   unfolding grants
-  grants-rising r = rising-keep stamp fits (takes st q) (takes-rising st q r)
+  grants-rising r = rising-keep stamp _ (takes st q) (takes-rising st q r)
 
   -- ---- the latest
 

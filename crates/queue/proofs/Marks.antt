@@ -43,7 +43,10 @@ module _ (st : Start) (q : Queue) (g : Good st q) where
   old-take : (m : Message) → New st q m → (x : Message) → In x (accept st q m) → T (by (st .own) x) → T (isTake x) → In x q
   unfolding accept saying
   old-take m w x i o y =
-      cond-both (λ (l : Queue). In x l → In x q) (acks m) (say st 3 p) p (λ c j. ⊎-elim (λ d. absurd (take-cast d y)) came (in-say st 3 p x j)) (λ c. came) i
+      cond-both (λ (l : Queue). In x l → In x q) (acks m) (say st 3 p) p
+      (λ c j. ⊎-elim (λ d. absurd (take-cast d y)) came (in-say st 3 p x j))
+      (λ c. came)
+      i
     where
       p : Queue
       p = put stamp m q
