@@ -43,7 +43,7 @@ sumTo-zero (suc n) = let b = sumTo-zero n in omega arith
 
 -- ---- ones
 
-one-yes : (b : Bool) → T b → one? b ≡ 1
+pub one-yes : (b : Bool) → T b → one? b ≡ 1
 one-yes true t = refl
 one-yes false t = absurd t
 
