@@ -2,8 +2,8 @@
 use Prim.Native.Nat.{ℕ, _≤_, _<_}
 use native.Mathlib.Omega.{arith}
 use mathlib.Core.List.{List, [], _∷_}
-use lib.Dec.{T, ltb, ltb→lt}
-use Rattle.laws.proofs.Tests.{and-l, and-r}
+use lib.Dec.{T, ltb, leb, ltb→lt, leb→le, le→leb}
+use Rattle.laws.proofs.Tests.{and-l, and-r, same-test}
 use Rattle.laws.specs.Ladder.{Row, refusal}
 use mathlib.Core.Path.{_≡_, refl, ap, _∙_, sym}
 use mathlib.Core.Bool.{Bool, true, false, cond, not, _&&_, _||_}
@@ -87,3 +87,7 @@ quiet (r ∷ rows) n e =
 pub unrefused : (rows : List Row) → Quiet rows → refusal rows ≡ 0
 unrefused [] q = refl
 unrefused (r ∷ rows) q = rw (q .0) (unrefused rows (q .1))
+
+-- two orders that say the same
+pub same-leb : (a b c d : ℕ) → (a ≤ b → c ≤ d) → (c ≤ d → a ≤ b) → leb a b ≡ leb c d
+same-leb a b c d f g = same-test (leb a b) (leb c d) (λ t. le→leb c d (f (leb→le a b t))) (λ t. le→leb a b (g (leb→le c d t)))

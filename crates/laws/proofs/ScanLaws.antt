@@ -1,5 +1,5 @@
 -- Loops: what one turn over a list, or over the numbers below n, does to a definition. Assumes nothing.
-use mathlib.Core.Path.{_≡_, refl, ap, _∙_, sym}
+use mathlib.Core.Path.{_≡_, refl, ap, ap₂, _∙_, sym}
 use mathlib.Core.Logic.{_⊎_, inl, inr}
 use mathlib.Core.Bool.{Bool, true, false, cond, _&&_, and-false}
 use mathlib.Core.List.{List, [], _∷_}
@@ -8,8 +8,8 @@ use native.Mathlib.Omega.{arith}
 use native.Mathlib.Numerals.{add-one}
 use native.Mathlib.Nat.{eq-or-lt-of-le, le-of-suc-le-suc}
 use lib.Dec.{T}
-use lib.ListN.{length, getD}
-use lib.Seq.{slice, slice-cons, slice-empty}
+use lib.ListN.{length, getD, drop, drop-of-length-le}
+use lib.Seq.{slice, slice-cons, slice-empty, drop-cons}
 use Rattle.laws.specs.Lists.{In, keep, many, all}
 use Rattle.laws.specs.Below.{allTo, sumTo}
 use Rattle.laws.proofs.Tests.{and-l, and-r}
@@ -59,3 +59,24 @@ many-length f (x ∷ xs) = go (f x) (many-length f xs)
     go : (b : Bool) → many f xs ≤ length xs → length (cond b (x ∷ keep f xs) (keep f xs)) ≤ suc (length xs)
     go true h = omega arith
     go false h = omega arith
+
+-- from i on: one and those after it, as the code counts
+pub next-drop : {A : Type 0} (l : List A) (i : ℕ) (d : A) → i < length l → drop i l ≡ getD l i d ∷ drop (i + 1) l
+next-drop l i d h = drop-cons l i d h ∙ ap (λ (j : ℕ). getD l i d ∷ drop j l) (sym (add-one i))
+
+-- two tests of each number are one test of each
+pub allTo-both : (n : ℕ) (f g : ℕ → Bool) → allTo n (λ i. f i && g i) ≡ allTo n f && allTo n g
+unfolding allTo
+allTo-both zero f g = refl
+allTo-both (suc n) f g = ap (λ (x : Bool). f n && g n && x) (allTo-both n f g) ∙ regroup (f n) (g n) (allTo n f) (allTo n g)
+  where
+    regroup : (a b c d : Bool) → (a && b) && (c && d) ≡ (a && c) && (b && d)
+    regroup true true c d = refl
+    regroup true false true d = refl
+    regroup true false false d = refl
+    regroup false b c d = refl
+
+pub allTo-cong : (n : ℕ) (f g : ℕ → Bool) → ((i : ℕ) → i < n → f i ≡ g i) → allTo n f ≡ allTo n g
+unfolding allTo
+allTo-cong zero f g h = refl
+allTo-cong (suc n) f g h = ap₂ _&&_ (h n (omega arith)) (allTo-cong n f g (λ i l. h i (omega arith)))

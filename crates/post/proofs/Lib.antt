@@ -1,2 +1,3 @@
 pub mod SoundFacts
 pub mod Looking
+pub mod RowsSound

@@ -11,20 +11,20 @@ ghost use Rattle.frame.specs.Message.{stampOf};
 ghost use Rattle.post.specs.Record.{leastTo};
 
 fn fits(posts: u8, clock: u32, q: usize, c: u32) -> bool
-    ensures { λ r. ⌜ r ≡ (leb c clock && (ltb q posts || eqb c 0)) ⌝ }
+    ensures { λ r. ⌜ r ≡ ((ltb q posts || eqb c 0) && leb c clock) ⌝ }
 {
-    if clock < c {
+    if q < posts as usize {
+        return c <= clock;
+    }
+    if c != 0 {
         return false;
     }
-    if q < posts as usize {
-        return true;
-    }
-    c == 0
+    c <= clock
 }
 
-// None is above the clock, and those at numbers N and above are 0.
+// Those at numbers N and above are 0, and none is above the clock.
 pub(crate) fn fit(last: [u32; 16], posts: u8, clock: u32) -> bool
-    ensures { λ r. ⌜ r ≡ allTo 16 (λ q. leb (getD last q 0) clock && (ltb q posts || eqb (getD last q 0) 0)) ⌝ }
+    ensures { λ r. ⌜ r ≡ allTo 16 (λ q. (ltb q posts || eqb (getD last q 0) 0) && leb (getD last q 0) clock) ⌝ }
 {
     let mut q = 0;
     while q < Post::POSTS {

@@ -9,11 +9,11 @@ ghost use mathlib.Core.Bool.{true, not, _&&_};
 ghost use Prim.Native.Nat.{_≤_, _<_, _+_, _^_, max};
 ghost use lib.Dec.{eqb, T};
 ghost use lib.ListN.{length};
-ghost use Rattle.laws.specs.Ladder.{refusal};
+ghost use Rattle.laws.specs.Ladder.{refusal, every};
 ghost use Rattle.frame.specs.Message.{msg, counted, lastCounter, stampOf};
 ghost use Rattle.frame.specs.Frame.{fieldsOf};
 ghost use Rattle.post.specs.Record.{fresh};
-ghost use Rattle.post.specs.Sound.{inRange, sound};
+ghost use Rattle.post.specs.Sound.{inRange, numberRules, slotRules, countRules, sound};
 ghost use Rattle.post.specs.Calls.{started, spoken, came, noted, ackClock, takeRows, returnRows, senderRows, turnRows, receiveRows, done, refused, over, Gives, took, tookBytes, gaveBack, gaveBackBytes, received, receivedBytes, valued, missed};
 
 // Document 01's record, its fields in 01's order and widths.
@@ -110,5 +110,75 @@ impl Post {
             post: Self::fresh(0, 0, 0, 0),
             number: 1,
         }
+    }
+
+    fn numbers_sound(self) -> bool
+        ensures { λ r. ⌜ r ≡ every (numberRules self) ⌝ }
+    {
+        if !rules::in_range(self.posts, self.own, self.feeder, self.places) {
+            return false;
+        }
+        if 3 < self.phase {
+            return false;
+        }
+        if 62 < self.waits {
+            return false;
+        }
+        let last = self.last;
+        lasts::fit(last, self.posts, self.clock)
+    }
+
+    fn slots_sound(self) -> bool
+        requires { ⌜ every (numberRules self) ≡ true ⌝ }
+        ensures { λ r. ⌜ r ≡ every (slotRules self) ⌝ }
+    {
+        let last = self.last;
+        let slots = self.slots;
+        let n = self.waits as usize;
+        let floor = lasts::floor(last, self.posts as usize, self.own as usize);
+        let seen = slots::look(slots, n, last, self.posts, self.own, floor);
+        if !seen.orderly {
+            return false;
+        }
+        if rules::is_crowd(self.posts, self.waits) {
+            return false;
+        }
+        if !slots::blank_from(slots, n) {
+            return false;
+        }
+        let counts = seen.counts;
+        if !lasts::few(counts, self.posts, self.own) {
+            return false;
+        }
+        rules::own_fits(self.phase, seen.takes, seen.returns, seen.end)
+    }
+
+    fn counts_sound(self) -> bool
+        ensures { λ r. ⌜ r ≡ every (countRules self) ⌝ }
+    {
+        let last = self.last;
+        let most = lasts::sum(last);
+        if !rules::sum_fits(self.takes, self.returns, self.waits, most) {
+            return false;
+        }
+        rules::order_fits(
+            self.phase,
+            self.order,
+            self.takes,
+            self.places as u64 + self.returns,
+        )
+    }
+
+    // Document 01's rules hold.
+    pub fn sound(self) -> bool
+        ensures { λ r. ⌜ r ≡ sound self ⌝ }
+    {
+        if !self.numbers_sound() {
+            return false;
+        }
+        if !self.slots_sound() {
+            return false;
+        }
+        self.counts_sound()
     }
 }

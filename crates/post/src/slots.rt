@@ -5,10 +5,11 @@ ghost use mathlib.Core.Path.{_≡_};
 ghost use mathlib.Core.Bool.{false, cond, _&&_};
 ghost use Prim.Native.Nat.{_≤_, _<_, _+_};
 ghost use lib.Dec.{leb, eqb};
-ghost use lib.ListN.{take};
-ghost use Rattle.laws.specs.Lists.{many};
+ghost use lib.ListN.{take, drop};
+ghost use Rattle.laws.specs.Lists.{all, many};
 ghost use Rattle.laws.specs.Below.{one?};
 ghost use Rattle.frame.specs.Message.{counted, by};
+ghost use Rattle.post.specs.Sound.{isBlank};
 ghost use Rattle.post.specs.Inside.{Looked};
 
 pub(crate) const BLANK: Message = Message {
@@ -128,4 +129,31 @@ pub(crate) fn look(
         returns,
         end,
     }
+}
+
+fn is_blank(m: Message) -> bool
+    ensures { λ r. ⌜ r ≡ isBlank m ⌝ }
+{
+    if m.kind != 0 {
+        return false;
+    }
+    if m.sender != 0 {
+        return false;
+    }
+    m.counter == 0
+}
+
+// The slots from n on are zero.
+pub(crate) fn blank_from(slots: [Message; 62], n: usize) -> bool
+    requires { ⌜ n ≤ 62 ⌝ }
+    ensures { λ r. ⌜ r ≡ all isBlank (drop n slots) ⌝ }
+{
+    let mut i = n;
+    while i < 62 {
+        if !is_blank(slots[i]) {
+            return false;
+        }
+        i += 1;
+    }
+    true
 }

@@ -14,7 +14,7 @@ use Rattle.post.proofs.lasts.fit.Tie as tie
 
 -- the test of post q
 abbrev fitsAt : ℕ → ℕ → List ℕ → ℕ → Bool
-fitsAt posts clock last q = leb (getD last q 0) clock && (ltb q posts || eqb (getD last q 0) 0)
+fitsAt posts clock last q = (ltb q posts || eqb (getD last q 0) 0) && leb (getD last q 0) clock
 
 abbrev Inv-loop : tie.InvT-loop
 Inv-loop posts clock last q₀ q = (q ≤ 16) × (allTo q (fitsAt posts clock last) ≡ true)

@@ -1,0 +1,47 @@
+use borrow.Author.Needs.{needs}
+use mathlib.Core.Path.{refl, _∙_, sym, ap}
+use mathlib.Core.Bool.{and-true}
+use borrow.Author.Tests.{not-true, not-false}
+use native.Mathlib.Omega.{arith}
+use Rattle.laws.proofs.Ladders.{and-first, and-fails}
+use Rattle.post.specs.Sound.{countRules, sumFits}
+use Rattle.post.proofs.RowsSound.{sum-is, sum-room}
+use Rattle.post.proofs.Post.counts_sound.Statement.{statement}
+use Rattle.post.proofs.Post.counts_sound.Tie as tie
+
+sum-requires : tie.Need-sum-requires
+sum-requires c κs = search needs
+
+sum-fits-requires : tie.Need-sum-fits-requires
+sum-fits-requires c κs = search needs
+
+returns : tie.Need-returns
+unfolding countRules
+returns c = and-fails _ _ (sum-is _ (c .before .before .sum .ensures) (c .before .sum-fits .ensures) ∙ not-true _ (c .if1 .taken)) refl
+
+cast-order-fits : tie.Need-cast-order-fits
+cast-order-fits c = search needs
+
+add-order-fits : tie.Need-add-order-fits
+add-order-fits c = search needs
+
+order-fits-requires : tie.Need-order-fits-requires
+order-fits-requires c κs = search needs
+
+returns-2 : tie.Need-returns-2
+unfolding countRules
+returns-2 c =
+    and-first _ _ (sum-is _ (c .before .before .before .before .before .sum .ensures) (c .before .before .before .before .sum-fits .ensures) ∙ not-false _ (c .before .before .before .if1 .left))
+    (c .order-fits .ensures ∙ sym (and-true _))
+
+pub counts-sound-spec : {M : Type 1} → statement M
+counts-sound-spec =
+    tie.close
+    (tie.spec
+    sum-requires
+    sum-fits-requires
+    returns
+    cast-order-fits
+    add-order-fits
+    order-fits-requires
+    returns-2)
