@@ -5,3 +5,5 @@ pub mod BelowLaws
 pub mod ListLaws
 pub mod RisingLaws
 pub mod ScanLaws
+pub mod SumLaws
+pub mod CountLaws
