@@ -1,1 +1,4 @@
 pub mod SoundFacts
+pub mod Shape
+pub mod Floors
+pub mod Standing
