@@ -2,3 +2,4 @@ pub mod SoundFacts
 pub mod Shape
 pub mod Floors
 pub mod Standing
+pub mod Most
