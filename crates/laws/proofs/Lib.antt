@@ -7,3 +7,4 @@ pub mod RisingLaws
 pub mod ScanLaws
 pub mod SumLaws
 pub mod CountLaws
+pub mod SetLaws

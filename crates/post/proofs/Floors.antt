@@ -1,14 +1,24 @@
 -- The floor: a stamp is heard exactly if it is at or below it, one of the other posts stands at it, and no call lowers it. Assumes nothing.
 use mathlib.Core.Path.{_≡_, refl, sym, ap, _∙_}
+use mathlib.Core.List.{List}
 use mathlib.Core.Logic.{_⊎_, inl, inr, ⊎-elim, _↔_}
-use Prim.Native.Nat.{ℕ, zero, suc, _^_, _≤_, _<_, min}
+use Prim.Native.Nat.{ℕ, zero, suc, _+_, _^_, _≤_, _<_, min}
 use native.Mathlib.Omega.{arith}
 use lib.Dec.{eqb, eqb→eq}
+use lib.ListN.{length, getD, set}
+use lib.Seq.{getD-set-other}
+use Rattle.laws.specs.Ladder.{Row, refusal}
+use Rattle.laws.proofs.SetLaws.{set-up}
 use Rattle.laws.proofs.Tests.{test, cond-both, neqb→ne, leb-total}
 use Rattle.frame.specs.declared.Message.{Message}
-use Rattle.frame.specs.Message.{stampOf, stamp}
+use Rattle.frame.specs.Message.{stampOf, stamp, counted}
+use Rattle.frame.specs.Frame.{fieldsOf}
 use Rattle.post.specs.declared.Post.{Post}
-use Rattle.post.specs.Record.{lastOf, leastTo, floor}
+use Rattle.post.specs.declared.Answer.{Answer}
+use Rattle.post.specs.Record.{lastOf, leastTo, floor, remade}
+use Rattle.post.specs.Settle.{settle}
+use Rattle.post.specs.Calls.{spoken, ackClock, came, noted, takeRows, returnRows, receiveRows, sent, took, gaveBack, heardFrom, received}
+use Rattle.post.proofs.Accepted.{accepted}
 
 -- ---- the least over the posts below n but own
 
@@ -67,3 +77,41 @@ heard-floor p m b = (
   λ h q l d. let a = least-le (p .own) (λ r. stampOf (lastOf p r) r) (p .posts) q l d in omega arith,
   le-least (p .own) (λ r. stampOf (lastOf p r) r) (p .posts) (stamp m) b,
 )
+
+-- ---- the calls
+
+-- last counters of other posts that do not fall leave the floor as high, whatever waits
+pub floor-up : (p : Post) (clock : ℕ) (last : List ℕ) (ms : List Message) (phase order : ℕ)
+    → ((q : ℕ) → q < p .posts → (q ≡ p .own → ⊥) → lastOf p q ≤ getD last q 0) → floor p ≤ floor (settle (remade p clock last ms phase order))
+unfolding floor settle remade
+floor-up p clock last ms phase order h =
+    least-mono (p .posts) (p .own) (λ q. stampOf (lastOf p q) q) (λ q. stampOf (getD last q 0) q) (λ q l d. let a = h q l d in omega arith)
+
+-- whether it is refused or not
+sent-floor : (p : Post) (kind phase : ℕ) (rows : List Row) → floor p ≤ floor (sent p kind phase rows .post)
+unfolding sent spoken
+sent-floor p kind phase rows =
+    cond-both (λ (a : Answer). floor p ≤ floor (a .post)) (eqb (refusal rows) 0) _ _
+    (λ y. floor-up p _ _ _ _ _ (λ q l d. let e = getD-set-other (p .last) (p .own) q (p .clock + 1) 0 d in omega arith))
+    (λ n. omega arith)
+
+pub took-floor : (p : Post) (lent : List ℕ) → floor p ≤ floor (took p lent .post)
+took-floor p lent = sent-floor p 1 1 (takeRows p (length lent))
+
+pub gaveBack-floor : (p : Post) (lent : List ℕ) → floor p ≤ floor (gaveBack p lent .post)
+gaveBack-floor p lent = sent-floor p 2 0 (returnRows p (length lent))
+
+pub received-floor : (p : Post) (s lent : List ℕ) → floor p ≤ floor (received p s lent .post)
+unfolding heardFrom came noted
+received-floor p s lent =
+    cond-both (λ (a : Answer). floor p ≤ floor (a .post)) (eqb (refusal (receiveRows p s (length lent))) 0) _ _
+    (λ y. let m = fieldsOf s .message in
+    let a = accepted p s (length lent) (eqb→eq (refusal (receiveRows p s (length lent))) 0 y) .new in
+    let up : (q : ℕ) → lastOf p q ≤ getD (set (p .last) (m .sender) (m .counter)) q 0 = set-up (p .last) (m .sender) (m .counter) (omega arith) in
+    cond-both (λ (a : Answer). floor p ≤ floor (a .post)) (counted m) _ _
+    (λ c. floor-up p _ _ _ _ _ (λ q l d.
+    let e = getD-set-other (set (p .last) (m .sender) (m .counter)) (p .own) q (ackClock p m) 0 d in
+    let b = up q in
+    omega arith))
+    (λ c. floor-up p _ _ _ _ _ (λ q l d. up q)))
+    (λ n. omega arith)

@@ -1,5 +1,6 @@
 pub mod SoundFacts
 pub mod Shape
+pub mod Accepted
 pub mod Floors
 pub mod Standing
 pub mod Most
