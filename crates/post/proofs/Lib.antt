@@ -4,3 +4,4 @@ pub mod Accepted
 pub mod Floors
 pub mod Standing
 pub mod Most
+pub mod Above
