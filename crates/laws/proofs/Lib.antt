@@ -8,3 +8,4 @@ pub mod ScanLaws
 pub mod SumLaws
 pub mod CountLaws
 pub mod SetLaws
+pub mod IntLaws

@@ -5,3 +5,4 @@ pub mod Floors
 pub mod Standing
 pub mod Most
 pub mod Above
+pub mod Values
