@@ -9,3 +9,4 @@ pub mod SumLaws
 pub mod CountLaws
 pub mod SetLaws
 pub mod IntLaws
+pub mod RefusalLaws
