@@ -20,6 +20,5 @@ module _ (p : Post) (s : Sound p) where
   waiting-below m i =
       let a = waiting-last m i in
       let b = s .fair m i .sender in
-      let c = s .posts-high in
       let d = last-below (m .sender) (omega arith) in
       omega arith

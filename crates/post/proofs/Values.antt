@@ -1,5 +1,5 @@
 -- In a sound record the counts are small, so the value lies within 2 ^ 37 of zero on either side. Assumes nothing.
-use Prim.Native.Nat.{_+_, _-_, _^_, _≤_, _<_}
+use Prim.Native.Nat.{_+_, _^_, _≤_, _<_}
 use native.Mathlib.Omega.{arith}
 use lib.Dec.{T}
 use lib.IntN.{natAbs}
@@ -17,7 +17,7 @@ use Rattle.post.proofs.Shape.{Width, last-width}
 module _ (p : Post) (s : Sound p) (w : Width p) where
   -- 16 last counters of four bytes
   pub counts-small : p .takes + p .returns + p .waits < 2 ^ 36
-  counts-small = let a = s .sum in let b = sumTo-most 16 lastCounter (lastOf p) (last-width p s w) in omega arith
+  counts-small = let b = sumTo-most 16 lastCounter (lastOf p) (last-width p s w) in omega arith
 
   pub takes-small : p .takes ≤ 2 ^ 36
   takes-small = let a = counts-small in omega arith
@@ -26,7 +26,7 @@ module _ (p : Post) (s : Sound p) (w : Width p) where
   returns-small = let a = counts-small in omega arith
 
   pub room-small : p .places + p .returns ≤ 2 ^ 37
-  room-small = let a = counts-small in let b = s .places-high in omega arith
+  room-small = let a = counts-small in omega arith
 
 pub value-near : (p : Post) → Width p → T (sound p) → natAbs (valued p .value) ≤ 2 ^ 37
 unfolding valued
