@@ -6,9 +6,10 @@ use mathlib.Core.List.{List, [], _∷_, _++_}
 use Prim.Native.Nat.{ℕ, suc, _+_, _≤_, _<_}
 use native.Mathlib.Omega.{arith}
 use lib.Dec.{T, ltb, eqb, not-T}
+use mir.Facts.{yes-and}
 use lib.ListN.{length, length-append}
 use Rattle.laws.specs.Below.{sumTo, one?}
-use Rattle.laws.specs.Lists.{In, keep, many, put}
+use Rattle.laws.specs.Lists.{In, keep, many, all, put}
 use Rattle.laws.proofs.Tests.{cond-both}
 use Rattle.laws.proofs.BelowLaws.{sumTo-cong}
 use Rattle.laws.proofs.ListLaws.{in-keep, keep-in, keep-yes, keep-append, keep-none, many-cons, parts}
@@ -40,6 +41,15 @@ module _ {A : Type 0} where
       go : (k : List A) → ((a : A) → In a k → In a l × T (f a)) → 1 ≤ length k → (a : A) × In a l × T (f a)
       go [] g e = absurd (omega arith)
       go (x ∷ k) g e = (x, g x (inl refl) .0, g x (inl refl) .1)
+
+  pub length-none : (l : List A) → ((a : A) → In a l → ⊥) → length l ≡ 0
+  length-none [] h = refl
+  length-none (x ∷ xs) h = absurd (h x (inl refl))
+
+  pub at-all : (f : A → Bool) (l : List A) → ((a : A) → In a l → T (f a)) → T (all f l)
+  unfolding all
+  at-all f [] h = tt
+  at-all f (x ∷ xs) h = yes-and (f x) (all f xs) (h x (inl refl)) (at-all f xs (λ a m. h a (inr m)))
 
   -- by a number below n, part by part
   pub length-parts : (who : A → ℕ) (n : ℕ) (l : List A) → ((a : A) → In a l → who a < n) → sumTo n (λ p. many (λ a. eqb (who a) p) l) ≡ length l

@@ -6,3 +6,5 @@ pub mod Standing
 pub mod Most
 pub mod Above
 pub mod Values
+pub mod OwnMessages
+pub mod Settled
