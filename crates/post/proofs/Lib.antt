@@ -8,3 +8,4 @@ pub mod Above
 pub mod Values
 pub mod OwnMessages
 pub mod Settled
+pub mod StandsOn
