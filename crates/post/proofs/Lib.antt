@@ -9,3 +9,4 @@ pub mod Values
 pub mod OwnMessages
 pub mod Settled
 pub mod StandsOn
+pub mod SoundPasses
