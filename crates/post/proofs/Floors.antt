@@ -78,6 +78,10 @@ heard-floor p m b = (
   le-least (p .own) (λ r. stampOf (lastOf p r) r) (p .posts) (stamp m) b,
 )
 
+pub floor-settle : (p : Post) → floor (settle p) ≡ floor p
+unfolding floor settle
+floor-settle p = refl
+
 -- ---- the calls
 
 -- last counters of other posts that do not fall leave the floor as high, whatever waits

@@ -10,3 +10,4 @@ pub mod OwnMessages
 pub mod Settled
 pub mod StandsOn
 pub mod SoundPasses
+pub mod Settles

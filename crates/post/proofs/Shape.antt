@@ -2,11 +2,13 @@
 use mathlib.Core.Path.{_≡_}
 use Prim.Native.Nat.{ℕ, _≤_, _<_}
 use native.Mathlib.Omega.{arith}
+use lib.Dec.{T}
 use lib.ListN.{length}
 use lib.Seq.{length-take-le}
 use Rattle.frame.specs.Message.{lastCounter}
 use Rattle.post.specs.declared.Post.{Post}
 use Rattle.post.specs.Record.{lastOf, waitingOf}
+use Rattle.post.specs.Sound.{sound}
 use Rattle.post.proofs.SoundFacts.{Sound}
 
 pub record Shape (p : Post) : Type 0 where
@@ -16,9 +18,15 @@ pub record Shape (p : Post) : Type 0 where
 abbrev pub Width : Post → Type 0
 Width p = p .clock ≤ lastCounter
 
+-- a sound record of the code's types
+pub record Kept (p : Post) : Type 0 where
+  pub sound : T (sound p)
+  pub shape : Shape p
+  pub width : Width p
+
 module _ (p : Post) (s : Sound p) where
   pub length-waiting : Shape p → length (waitingOf p) ≡ p .waits
-  length-waiting h = let a = s .waits in let b = h .slots in length-take-le (p .waits) (p .slots) (omega arith)
+  length-waiting h = length-take-le (p .waits) (p .slots) (omega arith)
 
   pub last-width : Width p → (q : ℕ) → q < 16 → lastOf p q ≤ lastCounter
   last-width w q l = let a = s .clock q l in omega arith
