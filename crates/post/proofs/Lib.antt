@@ -11,3 +11,7 @@ pub mod Settled
 pub mod StandsOn
 pub mod SoundPasses
 pub mod Settles
+pub mod Raised
+pub mod Remade
+pub mod Stays
+pub mod Starts
