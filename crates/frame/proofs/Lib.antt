@@ -2,3 +2,4 @@ pub mod Stored
 pub mod Frames
 pub mod Stamps
 pub mod Unique
+pub mod FrameFields

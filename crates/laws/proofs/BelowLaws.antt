@@ -1,6 +1,6 @@
 -- Tests and sums over the numbers below n. Assumes nothing.
-use mathlib.Core.Path.{_≡_, refl, ap, _∙_}
-use mathlib.Core.Bool.{Bool, true, false, _&&_}
+use mathlib.Core.Path.{_≡_, refl}
+use mathlib.Core.Bool.{Bool, true, false}
 use Prim.Native.Nat.{ℕ, zero, suc, _+_, _≤_, _<_}
 use native.Mathlib.Omega.{arith}
 use lib.Dec.{T, eqb, eqb→eq}
@@ -41,18 +41,25 @@ unfolding sumTo
 sumTo-zero zero = refl
 sumTo-zero (suc n) = let b = sumTo-zero n in omega arith
 
+-- ---- ones
+
 pub one-yes : (b : Bool) → T b → one? b ≡ 1
 one-yes true t = refl
 one-yes false t = absurd t
 
-one-eqb : (m n : ℕ) → (m ≡ n → ⊥) → one? (eqb m n) ≡ 0
+pub one-le : (a b : Bool) → (T a → T b) → one? a ≤ one? b
+one-le true true h = omega arith
+one-le true false h = absurd (h tt)
+one-le false b h = omega arith
+
+pub one-eqb : (m n : ℕ) → (m ≡ n → ⊥) → one? (eqb m n) ≡ 0
 one-eqb m n d = go (eqb m n) (λ t. d (eqb→eq m n t))
   where
     go : (b : Bool) → (T b → ⊥) → one? b ≡ 0
     go true f = absurd (f tt)
     go false f = refl
 
--- over the numbers up to k, one is k
+-- of the numbers below n none is k, or one
 one-none : (n k : ℕ) → n ≤ k → sumTo n (λ i. one? (eqb k i)) ≡ 0
 unfolding sumTo
 one-none zero k h = refl

@@ -42,7 +42,23 @@ two-on false t q = q
 pub both-off : (s t : Bool) → s ≡ false → t ≡ false → s || t ≡ false
 both-off s t p q = rw p q
 
+module _ {r : Bool} where
+  pub and-first : (s t : Bool) → s ≡ true → r ≡ t → r ≡ s && t
+  and-first s t p q = q ∙ sym (rw p)
+
+  pub and-fails : (s t : Bool) → s ≡ false → r ≡ false → r ≡ s && t
+  and-fails s t p q = q ∙ sym (one-off s t p)
+
+  pub or-passes : (s t : Bool) → s ≡ true → r ≡ true → r ≡ s || t
+  or-passes s t p q = q ∙ sym (one-on s t p)
+
+  pub or-after : (s t : Bool) → s ≡ false → r ≡ t → r ≡ s || t
+  or-after s t p q = q ∙ sym (rw p)
+
 pub ruleset picks = (on, off, not-on, not-off, both-on, one-off, two-off, one-on, two-on, both-off, lt-ltb, le-ltb, le-leb, lt-leb, eq-eqb, ne-eqb)
+
+-- a test by its first parts, as a function that returns one goes
+pub ruleset tests = (and-first, and-fails, or-passes, or-after, lt-ltb, le-ltb, le-leb, lt-leb, eq-eqb, ne-eqb)
 
 -- no test of the rows passes
 abbrev pub Quiet : List Row → Type 0

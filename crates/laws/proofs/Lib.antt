@@ -10,3 +10,4 @@ pub mod CountLaws
 pub mod SetLaws
 pub mod IntLaws
 pub mod RefusalLaws
+pub mod BitLaws

@@ -6,14 +6,18 @@ use mathlib.Core.List.{List, [], _∷_, _++_, append-assoc, append-nil}
 use Prim.Native.Nat.{ℕ, _+_, _≤_, _<_}
 use native.Mathlib.Omega.{arith}
 use lib.Dec.{T, T-not, eqb}
-use lib.ListN.{length, length-append}
+use lib.ListN.{length, drop, length-append}
+use lib.Seq.{drop-append-seam}
 use lib.Ieee.Bits.{is-true, is-false}
 use Rattle.laws.specs.Below.{sumTo, one?}
 use Rattle.laws.specs.Lists.{In, keep, many, final, Begins}
 use Rattle.laws.proofs.Tests.{test, cond-both}
-use Rattle.laws.proofs.BelowLaws.{sumTo-cong, sumTo-add, sumTo-zero, one-below}
+use Rattle.laws.proofs.BelowLaws.{sumTo-cong, sumTo-add, sumTo-zero, one-le, one-below}
 
 module _ {A : Type 0} where
+  pub in-cast : {a b : A} (l : List A) → a ≡ b → In a l → In b l
+  in-cast l e i = subst (λ (x : A). In x l) e i
+
   pub in-left : (a : A) (s t : List A) → In a s → In a (s ++ t)
   in-left a [] t m = absurd m
   in-left a (x ∷ s) t (inl e) = inl e
@@ -94,11 +98,6 @@ module _ {A : Type 0} where
       let b = many-cons g x xs in
       let c = one-le (f x) (g x) (h x (inl refl)) in
       omega arith
-    where
-      one-le : (a b : Bool) → (T a → T b) → one? a ≤ one? b
-      one-le true true h = omega arith
-      one-le true false h = absurd (h tt)
-      one-le false b h = omega arith
 
   -- ---- one list begins another
 
@@ -116,6 +115,9 @@ module _ {A : Type 0} where
 
   pub begins-in : (a : A) (s t : List A) → Begins s t → In a s → In a t
   begins-in a s t b m = subst (In a) (b .1) (in-left a s (b .0) m)
+
+  pub begins-drop : (s t : List A) → Begins s t → s ++ drop (length s) t ≡ t
+  begins-drop s t b = subst (λ (u : List A). s ++ drop (length s) u ≡ u) (b .1) (ap (λ (r : List A). s ++ r) (drop-append-seam s (b .0)))
 
   -- ---- the last
 
@@ -141,12 +143,14 @@ module _ {A : Type 0} (who : A → ℕ) (n : ℕ) (g : A → Bool) where
       go true = sumTo-cong n _ _ (λ p l. ap one? (and-true (part p x))) ∙ one-below n (who x) h
       go false = sumTo-cong n _ _ (λ p l. ap one? (and-false (part p x))) ∙ sumTo-zero n
 
+  split : (p : ℕ) (x : A) (xs : List A) → many g (keep (part p) (x ∷ xs)) ≡ one? (part p x && g x) + many g (keep (part p) xs)
+  split p x xs = rw (keep-keep g (part p) (x ∷ xs), keep-keep g (part p) xs) (many-cons (λ a. part p a && g a) x xs)
+
   pub parts : (l : List A) → ((a : A) → In a l → who a < n) → sumTo n (λ p. many g (keep (part p) l)) ≡ many g l
   unfolding keep
   parts [] h = sumTo-zero n
   parts (x ∷ xs) h =
-      let a = sumTo-cong n (λ p. many g (keep (part p) (x ∷ xs))) (λ p. one? (part p x && g x) + many g (keep (part p) xs))
-      (λ p l. rw (keep-keep g (part p) (x ∷ xs), keep-keep g (part p) xs) (many-cons (λ a. part p a && g a) x xs)) in
+      let a = sumTo-cong n _ (λ p. one? (part p x && g x) + many g (keep (part p) xs)) (λ p l. split p x xs) in
       let b = sumTo-add n (λ p. one? (part p x && g x)) (λ p. many g (keep (part p) xs)) in
       let c = parts xs (λ a m. h a (inr m)) in
       let d = first x (h x (inl refl)) in

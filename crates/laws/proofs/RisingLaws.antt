@@ -1,20 +1,17 @@
 -- Lists that rise by a number: put in, counted up to a member, compared; and the greatest number. Assumes nothing.
 use mathlib.Core.Path.{_≡_, refl, sym, ap, _∙_, subst}
 use mathlib.Core.Logic.{_⊎_, inl, inr, ⊎-elim}
-use mathlib.Core.Bool.{Bool, true, false, not, cond}
+use mathlib.Core.Bool.{Bool, true, not}
 use mathlib.Core.List.{List, [], _∷_, _++_, append-nil}
-use Prim.Native.Nat.{ℕ, zero, suc, _+_, _≤_, _<_, max}
+use Prim.Native.Nat.{ℕ, zero, suc, _≤_, _<_}
 use native.Mathlib.Omega.{arith}
 use lib.Dec.{T, leb, ltb, not-T, leb→le, le→leb, ltb→lt, nltb→le}
 use lib.ListN.{length}
-use Rattle.laws.specs.Below.{one?}
+use mir.Facts.{clash}
 use Rattle.laws.specs.Lists.{In, keep, many, final, Begins, Rising, put, upto, top}
 use Rattle.laws.proofs.Tests.{cond-both, leb-total}
+use Rattle.laws.proofs.BelowLaws.{one-le}
 use Rattle.laws.proofs.ListLaws.{in-left, in-right, in-append, keep-no, keep-yes, in-keep, keep-in, keep-append, keep-none, many-cons, many-le}
-
-one-most : (b : Bool) → one? b ≤ 1
-one-most true = omega arith
-one-most false = omega arith
 
 module _ {A : Type 0} (key : A → ℕ) where
   -- ---- the members of a rising list
@@ -61,7 +58,10 @@ module _ {A : Type 0} (key : A → ℕ) where
   one-begins [] t rs rt f g = inl (t, refl)
   one-begins (x ∷ s) [] rs rt f g = inr (x ∷ s, refl)
   one-begins (x ∷ s) (y ∷ t) rs rt f g =
-      ⊎-elim (λ b. inl (b .0, let e = b .1 in let d = same in cc)) (λ b. inr (b .0, let e = b .1 in let d = same in cc)) (one-begins s t (rs .1) (rt .1) f′ g′)
+      ⊎-elim
+      (λ b. inl (b .0, let e = b .1 in let d = same in cc))
+      (λ b. inr (b .0, let e = b .1 in let d = same in cc))
+      (one-begins s t (rs .1) (rt .1) f′ g′)
     where
       same : x ≡ y
       same =
@@ -160,12 +160,14 @@ module _ {A : Type 0} (key : A → ℕ) where
   -- ---- how many are at or below one: its number
 
   -- more above it leaves its number alone
-  pub upto-append : (s t : List A) (a : A) → ((b : A) → In b t → key a < key b) → upto key (s ++ t) a ≡ upto key s a
+  pub upto-begins : (s t : List A) → Begins s t → Rising key t → (a : A) → In a s → upto key t a ≡ upto key s a
   unfolding upto
-  upto-append s t a h =
-      let f : A → Bool = λ b. leb (key b) (key a) in
-      let e : keep f t ≡ [] = keep-none f t (λ b m. not-T (f b) (λ y. let p = leb→le (key b) (key a) y in let q = h b m in omega arith)) in
-      rw (keep-append f s t, e, append-nil (keep f s))
+  upto-begins s t b r a i =
+      let f : A → Bool = λ x. leb (key x) (key a) in
+      let up : Rising key (s ++ b .0) = subst (Rising key) (sym (b .1)) r in
+      let above : (x : A) → In x (b .0) → T (not (f x)) = λ x j. not-T (f x) (λ y. clash (rising-seam s (b .0) up a x i j) (leb→le (key x) (key a) y)) in
+      let e : keep f (b .0) ≡ [] = keep-none f (b .0) above in
+      ap (many f) (sym (b .1)) ∙ rw (keep-append f s (b .0), e, append-nil (keep f s))
 
   upto-head : (x : A) (xs : List A) (a : A) → key x ≤ key a → upto key (x ∷ xs) a ≡ suc (upto key xs a)
   unfolding upto
@@ -190,7 +192,7 @@ module _ {A : Type 0} (key : A → ℕ) where
       let p = leb→le (upto key (x ∷ xs) a) (suc n) y in
       let q = upto-head x xs a (let w = r .0 a m in omega arith) in
       le→leb (upto key xs a) n (omega arith)) in
-      let d = one-most (f x) in
+      let d = one-le (f x) true (λ y. tt) in
       omega arith
 
   -- ---- the greatest

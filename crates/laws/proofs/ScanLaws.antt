@@ -10,7 +10,7 @@ use native.Mathlib.Nat.{eq-or-lt-of-le, le-of-suc-le-suc}
 use lib.Dec.{T}
 use lib.ListN.{length, getD}
 use lib.Seq.{slice, slice-cons, slice-empty}
-use Rattle.laws.specs.Lists.{In, all}
+use Rattle.laws.specs.Lists.{In, keep, many, all}
 use Rattle.laws.specs.Below.{allTo, sumTo}
 use Rattle.laws.proofs.Tests.{and-l, and-r}
 
@@ -34,6 +34,9 @@ pub allTo-more : (n : ℕ) (f : ℕ → Bool) → allTo n f ≡ true → f n ≡
 unfolding allTo
 allTo-more n f h e = ap (λ (x : ℕ). allTo x f) (add-one n) ∙ rw (e, h)
 
+pub allTo-end : (i n : ℕ) (f : ℕ → Bool) → i ≤ n → n ≤ i → allTo i f ≡ true → true ≡ allTo n f
+allTo-end i n f h k e = sym e ∙ ap (λ (x : ℕ). allTo x f) (let d : i ≡ n = omega arith in d)
+
 -- one that fails fails all
 pub allTo-fails : (n : ℕ) (f : ℕ → Bool) (i : ℕ) → i < n → f i ≡ false → allTo n f ≡ false
 unfolding allTo
@@ -47,3 +50,12 @@ allTo-fails (suc n) f i h e = go (eq-or-lt-of-le (le-of-suc-le-suc h)) (λ l. al
 pub sumTo-more : (n : ℕ) (f : ℕ → ℕ) → sumTo (n + 1) f ≡ f n + sumTo n f
 unfolding sumTo
 sumTo-more n f = ap (λ (x : ℕ). sumTo x f) (add-one n)
+
+pub many-length : {A : Type 0} (f : A → Bool) (l : List A) → many f l ≤ length l
+unfolding keep
+many-length f [] = omega arith
+many-length f (x ∷ xs) = go (f x) (many-length f xs)
+  where
+    go : (b : Bool) → many f xs ≤ length xs → length (cond b (x ∷ keep f xs) (keep f xs)) ≤ suc (length xs)
+    go true h = omega arith
+    go false h = omega arith

@@ -15,3 +15,4 @@ pub mod Raised
 pub mod Remade
 pub mod Stays
 pub mod Starts
+pub mod Looking

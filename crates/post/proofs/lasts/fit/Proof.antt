@@ -1,0 +1,67 @@
+use borrow.Author.Needs.{needs}
+use Prim.Native.Nat.{ℕ, _≤_, _-_}
+use mathlib.Core.Path.{_≡_, refl, _∙_, sym}
+use mathlib.Core.Bool.{Bool, true, _&&_, _||_}
+use mathlib.Core.List.{List}
+use lib.Dec.{leb, ltb, eqb}
+use lib.ListN.{getD}
+use native.Mathlib.Omega.{arith}
+use borrow.Author.Tests.{not-true, not-false}
+use Rattle.laws.specs.Below.{allTo}
+use Rattle.laws.proofs.ScanLaws.{allTo-more, allTo-end, allTo-fails}
+use Rattle.post.proofs.lasts.fit.Statement.{statement}
+use Rattle.post.proofs.lasts.fit.Tie as tie
+
+-- the test of post q
+abbrev fitsAt : ℕ → ℕ → List ℕ → ℕ → Bool
+fitsAt posts clock last q = leb (getD last q 0) clock && (ltb q posts || eqb (getD last q 0) 0)
+
+abbrev Inv-loop : tie.InvT-loop
+Inv-loop posts clock last q₀ q = (q ≤ 16) × (allTo q (fitsAt posts clock last) ≡ true)
+
+abbrev μ-loop : tie.MeasureT-loop
+μ-loop posts clock last q₀ q = 16 - q
+
+loop-holds : tie.Need-loop-holds Inv-loop μ-loop
+unfolding allTo
+loop-holds c = (omega arith, refl)
+
+mul-fits : tie.Need-mul-fits Inv-loop μ-loop
+mul-fits c = search needs
+
+array-read-fits : tie.Need-array-read-fits Inv-loop μ-loop
+array-read-fits c = search needs
+
+fits-requires : tie.Need-fits-requires Inv-loop μ-loop
+fits-requires c κs = search needs
+
+returns : tie.Need-returns Inv-loop μ-loop
+returns c = sym (allTo-fails 16 _ _ (omega arith) (sym (c .before .fits2 .ensures) ∙ not-true _ (c .if1 .taken)))
+
+add-q : tie.Need-add-q Inv-loop μ-loop
+add-q c = search needs
+
+loop-less : tie.Need-loop-less Inv-loop μ-loop
+loop-less c = search needs
+
+loop-again : tie.Need-loop-again Inv-loop μ-loop
+loop-again c = (omega arith, allTo-more _ _ (c .before .before .before .loop .inv .1) (sym (c .before .fits2 .ensures) ∙ not-false _ (c .if1 .left)))
+
+returns-2 : tie.Need-returns-2 Inv-loop μ-loop
+returns-2 c = allTo-end _ 16 _ (omega arith) (omega arith) (c .before .loop .inv .1)
+
+pub fit-spec : {M : Type 1} → statement M
+fit-spec =
+    tie.close
+    (tie.spec
+    Inv-loop
+    μ-loop
+    loop-holds
+    mul-fits
+    array-read-fits
+    fits-requires
+    returns
+    add-q
+    loop-less
+    loop-again
+    returns-2)

@@ -1,0 +1,62 @@
+use borrow.Author.Needs.{needs}
+use mathlib.Core.Bool.{cond}
+use Prim.Native.Nat.{ℕ, _+_, _≤_, _-_, min}
+use mathlib.Core.Path.{_≡_, refl, ap, _∙_, sym}
+use lib.Dec.{eqb}
+use lib.ListN.{getD}
+use native.Mathlib.Omega.{arith}
+use native.Mathlib.Numerals.{add-one}
+use Rattle.frame.specs.Message.{stampOf}
+use Rattle.post.specs.Record.{leastTo}
+use Rattle.post.proofs.lasts.floor.Statement.{statement}
+use Rattle.post.proofs.lasts.floor.Tie as tie
+
+least-more : (n own : ℕ) (f : ℕ → ℕ) {x y : ℕ} → y ≡ cond (eqb n own) x (min (f n) x) → x ≡ leastTo n own f → y ≡ leastTo (n + 1) own f
+unfolding leastTo
+least-more n own f p e = p ∙ ap (λ (z : ℕ). cond (eqb n own) z (min (f n) z)) e ∙ sym (ap (λ (z : ℕ). leastTo z own f) (add-one n))
+
+abbrev Inv-loop : tie.InvT-loop
+Inv-loop posts own last f₀ q₀ f q = (q ≤ posts) × (f ≡ leastTo q own (λ x. stampOf (getD last x 0) x))
+
+abbrev μ-loop : tie.MeasureT-loop
+μ-loop posts own last f₀ q₀ f q = posts - q
+
+loop-holds : tie.Need-loop-holds Inv-loop μ-loop
+unfolding leastTo
+loop-holds c = (omega arith, refl)
+
+mul-lower : tie.Need-mul-lower Inv-loop μ-loop
+mul-lower c = search needs
+
+array-read-lower : tie.Need-array-read-lower Inv-loop μ-loop
+array-read-lower c = search needs
+
+lower-requires : tie.Need-lower-requires Inv-loop μ-loop
+lower-requires c κs = search needs
+
+add-q : tie.Need-add-q Inv-loop μ-loop
+add-q c = search needs
+
+loop-less : tie.Need-loop-less Inv-loop μ-loop
+loop-less c = search needs
+
+loop-again : tie.Need-loop-again Inv-loop μ-loop
+loop-again c = (omega arith, least-more _ _ (λ x. stampOf (getD (c .before .before .before .args .t1) x 0) x) (c .lower .ensures) (c .before .before .loop .inv .1))
+
+returns : tie.Need-returns Inv-loop μ-loop
+returns c = let e : c .before .loop .q ≡ c .before .before .args .posts = omega arith in rw e at (c .before .loop .inv .1)
+
+pub floor-spec : {M : Type 1} → statement M
+floor-spec =
+    tie.close
+    (tie.spec
+    Inv-loop
+    μ-loop
+    loop-holds
+    mul-lower
+    array-read-lower
+    lower-requires
+    add-q
+    loop-less
+    loop-again
+    returns)

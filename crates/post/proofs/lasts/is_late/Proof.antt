@@ -1,0 +1,22 @@
+use borrow.Author.Needs.{needs}
+use borrow.Author.Tests.{ne-eqb}
+use mathlib.Core.Path.{refl, ap}
+use mathlib.Core.Bool.{not}
+use Rattle.laws.proofs.Ladders.{tests, picks, and-first}
+use Rattle.post.proofs.lasts.is_late.Statement.{statement}
+use Rattle.post.proofs.lasts.is_late.Tie as tie
+
+returns : tie.Need-returns
+returns c = search (tests, picks, needs) depth 8
+
+cast-stamp : tie.Need-cast-stamp
+cast-stamp c = search needs
+
+stamp-requires : tie.Need-stamp-requires
+stamp-requires c κs = search needs
+
+returns-2 : tie.Need-returns-2
+returns-2 c = and-first _ _ (ap not (ne-eqb _ _ (c .before .if1 .left))) (rw (c .stamp .ensures))
+
+pub is-late-spec : {M : Type 1} → statement M
+is-late-spec = tie.close (tie.spec returns cast-stamp stamp-requires returns-2)

@@ -1,0 +1,64 @@
+use borrow.Author.Needs.{needs}
+use Prim.Native.Nat.{ℕ, _≤_, _-_, _*_, _^_}
+use mathlib.Core.Path.{_≡_, refl}
+use lib.ListN.{getD}
+use native.Mathlib.Omega.{arith}
+use Rattle.laws.specs.Below.{sumTo}
+use Rattle.laws.proofs.ScanLaws.{sumTo-more}
+use Rattle.post.proofs.lasts.sum.Statement.{statement}
+use Rattle.post.proofs.lasts.sum.Tie as tie
+
+abbrev Inv-loop : tie.InvT-loop
+Inv-loop last s₀ q₀ s q = (q ≤ 16) × (s ≡ sumTo q (λ x. getD last x 0)) × (s ≤ q * 2 ^ 32)
+
+abbrev μ-loop : tie.MeasureT-loop
+μ-loop last s₀ q₀ s q = 16 - q
+
+loop-holds : tie.Need-loop-holds Inv-loop μ-loop
+unfolding sumTo
+loop-holds c = (omega arith, refl, omega arith)
+
+mul-wide : tie.Need-mul-wide Inv-loop μ-loop
+mul-wide c = search needs
+
+array-read-wide : tie.Need-array-read-wide Inv-loop μ-loop
+array-read-wide c = search needs
+
+wide-requires : tie.Need-wide-requires Inv-loop μ-loop
+wide-requires c κs = search needs
+
+add-s : tie.Need-add-s Inv-loop μ-loop
+add-s c = search needs
+
+add-q : tie.Need-add-q Inv-loop μ-loop
+add-q c = search needs
+
+loop-less : tie.Need-loop-less Inv-loop μ-loop
+loop-less c = search needs
+
+loop-again : tie.Need-loop-again Inv-loop μ-loop
+loop-again c =
+    let l = c .before .before .loop in
+    let w = c .wide .ensures in
+    let e = l .inv .1 in
+    let m = sumTo-more (l .q) (λ x. getD (c .before .before .before .args .t1) x 0) in
+    (omega arith, omega arith, omega arith)
+
+returns : tie.Need-returns Inv-loop μ-loop
+returns c = let e : c .before .loop .q ≡ 16 = omega arith in rw e at (c .before .loop .inv .1)
+
+pub sum-spec : {M : Type 1} → statement M
+sum-spec =
+    tie.close
+    (tie.spec
+    Inv-loop
+    μ-loop
+    loop-holds
+    mul-wide
+    array-read-wide
+    wide-requires
+    add-s
+    add-q
+    loop-less
+    loop-again
+    returns)

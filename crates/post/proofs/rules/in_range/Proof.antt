@@ -1,0 +1,42 @@
+use borrow.Author.Needs.{needs}
+use borrow.Author.Tests.{le-leb, lt-ltb}
+use mathlib.Core.Path.{refl}
+use native.Mathlib.Omega.{arith}
+use Rattle.laws.proofs.Ladders.{tests, and-first}
+use Rattle.post.specs.Sound.{inRange}
+use Rattle.post.proofs.rules.in_range.Statement.{statement}
+use Rattle.post.proofs.rules.in_range.Tie as tie
+
+returns : tie.Need-returns
+unfolding inRange
+returns c = search (tests, needs) depth 12
+
+returns-2 : tie.Need-returns-2
+unfolding inRange
+returns-2 c = search (tests, needs) depth 12
+
+returns-3 : tie.Need-returns-3
+unfolding inRange
+returns-3 c = search (tests, needs) depth 12
+
+returns-4 : tie.Need-returns-4
+unfolding inRange
+returns-4 c = search (tests, needs) depth 12
+
+returns-5 : tie.Need-returns-5
+unfolding inRange
+returns-5 c = search (tests, needs) depth 12
+
+returns-6 : tie.Need-returns-6
+unfolding inRange
+returns-6 c =
+    let a = c .before .before .before .before .before .args in
+    and-first _ _ (le-leb 1 (a .posts) (omega arith))
+    (and-first _ _ (le-leb (a .posts) 16 (omega arith))
+    (and-first _ _ (lt-ltb (a .own) (a .posts) (omega arith))
+    (and-first _ _ (le-leb 1 (a .places) (omega arith))
+    (and-first _ _ (le-leb (a .places) 16 (omega arith))
+    (and-first _ _ (le-leb (a .feeder) 255 (omega arith)) refl)))))
+
+pub in-range-spec : {M : Type 1} → statement M
+in-range-spec = tie.close (tie.spec returns returns-2 returns-3 returns-4 returns-5 returns-6)

@@ -1,0 +1,146 @@
+-- The invariant says what has been found and what is still to be looked at (`Going`). Assumes nothing.
+use borrow.Author.Needs.{needs}
+use Prim.Native.Nat.{ℕ, _+_, _≤_, _-_}
+use mathlib.Core.Path.{_≡_, refl, _∙_, sym}
+use mathlib.Core.List.{_∷_}
+use native.Mathlib.Omega.{arith}
+use borrow.Author.Tests.{not-true, not-false}
+use lib.ListN.{length, getD, take}
+use lib.Seq.{slice, length-take-le}
+use Rattle.frame.specs.Message.{blank}
+use Rattle.post.proofs.Looking.{Going, begun, foreign, unfit, low, takes-small, returns-small, each-small, turned, looked, unlooked, step, last-step}
+use Rattle.post.proofs.slots.look.Statement.{statement}
+use Rattle.post.proofs.slots.look.Tie as tie
+
+abbrev Inv-loop : tie.InvT-loop
+Inv-loop n posts own floor slots last counts₀ takes₀ returns₀ end₀ top₀ i₀ counts takes returns end top i = (i ≤ n) × Going posts own last floor (take n slots) (slice i n slots) top counts takes returns end
+
+abbrev μ-loop : tie.MeasureT-loop
+μ-loop n posts own floor slots last counts₀ takes₀ returns₀ end₀ top₀ i₀ counts takes returns end top i = n - i
+
+long : (c : tie.Start Inv-loop μ-loop) → length (c .args .t1) ≡ 62
+long c = search needs
+
+few : (c : tie.Start Inv-loop μ-loop) → length (take (c .args .n) (c .args .t1)) ≤ 62
+few c = let l = long c in let w = length-take-le (c .args .n) (c .args .t1) (omega arith) in omega arith
+
+-- the message that is looked at, and those after it
+going : (b : tie.In-loop Inv-loop μ-loop)
+    → let a = b .before .before .args in let k = b .before .loop in
+    Going (a .posts) (a .own) (a .t3) (a .floor) (take (a .n) (a .t1)) (getD (a .t1) (k .i) blank ∷ slice (k .i + 1) (a .n) (a .t1)) (k .top) (k .counts) (k .takes) (k .returns) (k .end)
+going b =
+    let a = b .before .before .args in
+    let l = long (b .before .before) in
+    step _ _ _ _ _ (a .t1) (b .before .loop .i) (a .n) (omega arith) (omega arith) (b .before .loop .inv .1)
+
+loop-holds : tie.Need-loop-holds Inv-loop μ-loop
+loop-holds c = (omega arith, begun _ _ _ _ _)
+
+mul-m : tie.Need-mul-m Inv-loop μ-loop
+mul-m c = search needs
+
+array-copy-out-m : tie.Need-array-copy-out-m Inv-loop μ-loop
+array-copy-out-m c = search needs
+
+disorderly-requires : tie.Need-disorderly-requires Inv-loop μ-loop
+disorderly-requires c κs = search needs
+
+returns : tie.Need-returns Inv-loop μ-loop
+returns c = unlooked _ _ _ _ _ _ (c .disorderly .ensures) (foreign _ _ _ _ _ (going (c .before .before .before .before)) (c .before .if1 .taken))
+
+cast-q : tie.Need-cast-q Inv-loop μ-loop
+cast-q c = search needs
+
+mul-fits-last : tie.Need-mul-fits-last Inv-loop μ-loop
+mul-fits-last c = search needs
+
+array-read-fits-last : tie.Need-array-read-fits-last Inv-loop μ-loop
+array-read-fits-last c = search needs
+
+fits-last-requires : tie.Need-fits-last-requires Inv-loop μ-loop
+fits-last-requires c κs = search needs
+
+disorderly-requires-2 : tie.Need-disorderly-requires-2 Inv-loop μ-loop
+disorderly-requires-2 c κs = search needs
+
+returns-2 : tie.Need-returns-2 Inv-loop μ-loop
+returns-2 c = unlooked _ _ _ _ _ _ (c .disorderly2 .ensures) (unfit _ _ _ _ _ (going (c .before .before .before .before .before .before .before)) (c .before .before .before .before .if1 .left) (sym (c .before .before .fits-last .ensures) ∙ not-true _ (c .before .if2 .taken)))
+
+stamp-requires : tie.Need-stamp-requires Inv-loop μ-loop
+stamp-requires c κs = search needs
+
+disorderly-requires-3 : tie.Need-disorderly-requires-3 Inv-loop μ-loop
+disorderly-requires-3 c κs = search needs
+
+returns-3 : tie.Need-returns-3 Inv-loop μ-loop
+returns-3 c = unlooked _ _ _ _ _ _ (c .disorderly3 .ensures) (low _ _ _ _ _ (going (c .before .before .before .before .before .before .before .before .before)) (let e = c .before .before .stamp .ensures in omega arith))
+
+array-read-counts : tie.Need-array-read-counts Inv-loop μ-loop
+array-read-counts c = search needs
+
+add-counts : tie.Need-add-counts Inv-loop μ-loop
+add-counts c =
+    let q = getD (c .before .before .before .before .before .before .before .before .before .before .args .t1) (c .before .before .before .before .before .before .before .before .before .loop .i) blank .sender in
+    let h = each-small _ _ _ _ _ (going (c .before .before .before .before .before .before .before .before)) (few (c .before .before .before .before .before .before .before .before .before .before)) q (omega arith) in
+    record { fits = omega arith }
+
+array-write-counts : tie.Need-array-write-counts Inv-loop μ-loop
+array-write-counts c = search needs
+
+tally-requires : tie.Need-tally-requires Inv-loop μ-loop
+tally-requires c κs = takes-small _ _ _ _ _ (going (c .before .before .before .before .before .before .before .before)) (few (c .before .before .before .before .before .before .before .before .before .before))
+
+tally-requires-2 : tie.Need-tally-requires-2 Inv-loop μ-loop
+tally-requires-2 c κs = returns-small _ _ _ _ _ (going (c .before .before .before .before .before .before .before .before .before)) (few (c .before .before .before .before .before .before .before .before .before .before .before))
+
+end-kind-requires : tie.Need-end-kind-requires Inv-loop μ-loop
+end-kind-requires c κs = search needs
+
+add-i : tie.Need-add-i Inv-loop μ-loop
+add-i c = search needs
+
+loop-less : tie.Need-loop-less Inv-loop μ-loop
+loop-less c = search needs
+
+loop-again : tie.Need-loop-again Inv-loop μ-loop
+loop-again c =
+    let fits = sym (c .before .before .before .before .before .before .fits-last .ensures) ∙ not-false _ (c .before .before .before .before .before .if2 .left) in (
+      omega arith,
+      turned _ _ _ _ _ (going (c .before .before .before .before .before .before .before .before .before .before .before)) (c .before .before .before .before .before .before .before .before .if1 .left) (search needs) fits (c .before .before .before .before .stamp .ensures) (c .before .before .before .if3 .left) (c .before .before .tally .ensures) (c .before .tally2 .ensures) (c .end-kind .ensures),
+    )
+
+returns-4 : tie.Need-returns-4 Inv-loop μ-loop
+returns-4 c =
+    let b = c .before in
+    looked _ _ _ _ _ (last-step _ _ _ _ _ (b .before .args .t1) (b .loop .i) (b .before .args .n) (omega arith) (omega arith) (b .loop .inv .1))
+
+pub look-spec : {M : Type 1} → statement M
+look-spec =
+    tie.close
+    (tie.spec
+    Inv-loop
+    μ-loop
+    loop-holds
+    mul-m
+    array-copy-out-m
+    disorderly-requires
+    returns
+    cast-q
+    mul-fits-last
+    array-read-fits-last
+    fits-last-requires
+    disorderly-requires-2
+    returns-2
+    stamp-requires
+    disorderly-requires-3
+    returns-3
+    array-read-counts
+    add-counts
+    array-write-counts
+    tally-requires
+    tally-requires-2
+    end-kind-requires
+    add-i
+    loop-less
+    loop-again
+    returns-4)

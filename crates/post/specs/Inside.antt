@@ -1,0 +1,19 @@
+-- What functions inside the crate promise each other, where a record says it best.
+use mathlib.Core.Path.{_≡_}
+use mathlib.Core.Bool.{true, _&&_}
+use mathlib.Core.List.{List}
+use Prim.Native.Nat.{ℕ, _<_}
+use lib.ListN.{getD}
+use Rattle.laws.specs.Lists.{all, many}
+use Rattle.frame.specs.declared.Message.{Message}
+use Rattle.frame.specs.Message.{isTake, isReturn, by}
+use Rattle.post.specs.declared.slots.Seen.{Seen}
+use Rattle.post.specs.Sound.{fair, rises, endKind}
+
+-- a look over messages above the floor t
+pub record Looked (posts own : ℕ) (last : List ℕ) (t : ℕ) (ms : List Message) (seen : Seen) : Type 0 where
+  pub orderly : seen .orderly ≡ (all (fair posts last) ms && rises t ms)
+  pub counts : seen .orderly ≡ true → (q : ℕ) → q < 16 → getD (seen .counts) q 0 ≡ many (by q) ms
+  pub takes : seen .orderly ≡ true → seen .takes ≡ many (λ m. by own m && isTake m) ms
+  pub returns : seen .orderly ≡ true → seen .returns ≡ many (λ m. by own m && isReturn m) ms
+  pub end : seen .orderly ≡ true → seen .end ≡ endKind own 0 ms

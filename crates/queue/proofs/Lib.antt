@@ -1,0 +1,13 @@
+pub mod Good
+pub mod Changes
+pub mod Heard
+pub mod Agree
+pub mod Places
+pub mod Cleared
+pub mod Parts
+pub mod Grow
+pub mod Granted
+pub mod Marks
+pub mod Holding
+pub mod Runs
+pub mod Demand3
