@@ -5,4 +5,9 @@ pub mod BelowLaws
 pub mod ListLaws
 pub mod RisingLaws
 pub mod ScanLaws
+pub mod SumLaws
+pub mod CountLaws
+pub mod SetLaws
+pub mod IntLaws
+pub mod RefusalLaws
 pub mod BitLaws

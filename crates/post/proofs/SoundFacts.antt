@@ -90,11 +90,11 @@ blanks-are [] t = refl
 blanks-are (x ∷ ms) t = ap₂ _∷_ (blank-is x (and-l (isBlank x) _ t)) (blanks-are ms (and-r (isBlank x) _ t))
 
 -- the tests of a row, each by its place
-abbrev Each : List Bool → Type 0
+abbrev pub Each : List Bool → Type 0
 Each [] = Unit
 Each (t ∷ ts) = T t × Each ts
 
-each : (ts : List Bool) → T (every ts) → Each ts
+pub each : (ts : List Bool) → T (every ts) → Each ts
 each [] e = tt
 each (t ∷ ts) e = (and-l t (every ts) e, each ts (and-r t (every ts) e))
 

@@ -1,0 +1,22 @@
+-- A table gives no number whose rows all fail. Assumes nothing.
+use mathlib.Core.Path.{_≡_, sym}
+use mathlib.Core.Logic.{⊎-elim}
+use mathlib.Core.Bool.{Bool, not, _||_}
+use mathlib.Core.List.{List, [], _∷_}
+use Prim.Native.Nat.{ℕ}
+use lib.Dec.{T, eqb, T-not}
+use Rattle.laws.specs.Ladder.{Row, refusal}
+use Rattle.laws.specs.Lists.{all}
+use Rattle.laws.proofs.Tests.{cond-both, and-l, and-r, or-e, neqb→ne}
+
+-- a row that does not give n
+abbrev pub spares : ℕ → Row → Bool
+spares n r = not (eqb (r .number) n) || not (r .test)
+
+pub refusal-not : (n : ℕ) (rows : List Row) → (n ≡ 0 → ⊥) → T (all (spares n) rows) → refusal rows ≡ n → ⊥
+unfolding all
+refusal-not n [] d t = λ e. d (sym e)
+refusal-not n (r ∷ rows) d t =
+    cond-both (λ x. x ≡ n → ⊥) (r .test) (r .number) (refusal rows)
+    (λ y e. ⊎-elim (λ z. neqb→ne (r .number) n z e) (λ z. T-not (r .test) z y) (or-e (not (eqb (r .number) n)) (not (r .test)) (and-l (spares n r) (all (spares n) rows) t)))
+    (λ y. refusal-not n rows d (and-r (spares n r) (all (spares n) rows) t))

@@ -1,0 +1,111 @@
+-- A record that is sound but for the settling is sound once what is settled has left. Assumes nothing.
+use mathlib.Core.Path.{_≡_, sym, ap, _∙_, subst}
+use mathlib.Core.List.{List, _++_}
+use Prim.Native.Nat.{ℕ, _+_, _-_, _≤_, _<_}
+use native.Mathlib.Omega.{arith}
+use lib.ListN.{length, drop, replicate, length-append, length-replicate}
+use lib.Seq.{take-append-seam, drop-append-seam}
+use Rattle.laws.specs.Lists.{In, many, Rising}
+use Rattle.laws.specs.Below.{sumTo}
+use Rattle.laws.proofs.CountLaws.{length-none}
+use Rattle.frame.specs.declared.Message.{Message}
+use Rattle.frame.specs.Message.{blank, stamp, by}
+use Rattle.post.specs.declared.Post.{Post}
+use Rattle.post.specs.Record.{lastOf, waitingOf, floor}
+use Rattle.post.specs.Sound.{ownFew}
+use Rattle.post.specs.Settle.{upTo, orderAfter, settle}
+use Rattle.post.proofs.SoundFacts.{Fair, Sound}
+use Rattle.post.proofs.Shape.{Shape, Width}
+use Rattle.post.proofs.Floors.{heard-floor, floor-settle}
+use Rattle.post.proofs.Standing.{Stands, own-fits, order-fits, phase-fits}
+use Rattle.post.proofs.Settled.{leftOf, kinds-most, upTo-join, many-settled, left-in, left-rises}
+use Rattle.post.proofs.StandsOn.{stands-on}
+
+-- what waits need not be above the floor yet, nor be none where the post is alone
+pub record Ready (p : Post) (ms : List Message) : Type 0 where
+  pub posts-low : 1 ≤ p .posts
+  pub posts-high : p .posts ≤ 16
+  pub own : p .own < p .posts
+  pub places-low : 1 ≤ p .places
+  pub places-high : p .places ≤ 16
+  pub feeder : p .feeder ≤ 255
+  pub long : length ms ≤ 62
+  pub absent : (q : ℕ) → q < 16 → p .posts ≤ q → lastOf p q ≡ 0
+  pub clock : (q : ℕ) → q < 16 → lastOf p q ≤ p .clock
+  pub width : Width p
+  pub fair : (m : Message) → In m ms → Fair (p .posts) (p .last) m
+  pub rising : Rising stamp ms
+  pub few : (q : ℕ) → q < p .posts → (q ≡ p .own → ⊥) → many (by q) ms ≤ 4
+  pub stands : Stands (p .own) (p .phase) (p .order) (p .takes) (p .places + p .returns) ms
+  pub sum : p .takes + p .returns + length ms ≤ sumTo 16 (lastOf p)
+
+slots-blank : (ms : List Message) (n : ℕ) → drop (length ms) (ms ++ replicate n blank) ≡ replicate (length (drop (length ms) (ms ++ replicate n blank))) blank
+slots-blank ms n = let e = drop-append-seam ms (replicate n blank) in rw (e, length-replicate n blank)
+
+pub settle-waiting : (p : Post) → waitingOf (settle p) ≡ leftOf (floor p) (waitingOf p)
+unfolding settle
+settle-waiting p = let left = leftOf (floor p) (waitingOf p) in take-append-seam left (replicate (62 - length left) blank)
+
+module _ (p : Post) (d : Ready p (waitingOf p)) where
+  abbrev gone : List Message
+  gone = upTo (floor p) (waitingOf p)
+
+  abbrev left : List Message
+  left = leftOf (floor p) (waitingOf p)
+
+  next-stands : Stands (p .own) (settle p .phase) (settle p .order) (settle p .takes) (settle p .places + settle p .returns) left
+  unfolding settle orderAfter
+  next-stands =
+      stands-on (p .own) gone left (p .phase) (p .order) (p .takes) (p .places) (p .returns)
+      (subst (Stands (p .own) (p .phase) (p .order) (p .takes) (p .places + p .returns)) (sym (upTo-join (floor p) (waitingOf p))) (d .stands))
+
+  lengths : length gone + length left ≡ length (waitingOf p)
+  lengths = sym (length-append gone left) ∙ ap length (upTo-join (floor p) (waitingOf p))
+
+  still-waits : (m : Message) → In m (waitingOf (settle p)) → In m (waitingOf p) × (floor p < stamp m)
+  still-waits m i = left-in (floor p) (waitingOf p) (d .rising) m (subst (In m) (settle-waiting p) i)
+
+  -- alone, everything is settled
+  none-alone : p .posts ≡ 1 → length left ≡ 0
+  none-alone e =
+      length-none left (λ m i.
+      let k = left-in (floor p) (waitingOf p) (d .rising) m i in
+      let f = d .fair m (k .0) in
+      let c = d .clock (m .sender) (omega arith) in
+      let h = heard-floor p m (omega arith) .1 (λ q l n. absurd (n (omega arith))) in
+      omega arith)
+
+  pub settles : Sound (settle p)
+  unfolding settle ownFew
+  settles = record {
+    posts-low = d .posts-low;
+    posts-high = d .posts-high;
+    own = d .own;
+    places-low = d .places-low;
+    places-high = d .places-high;
+    feeder = d .feeder;
+    phase = phase-fits _ _ _ _ _ _ _ next-stands;
+    waits = let a = lengths in omega arith;
+    absent = d .absent;
+    clock = d .clock;
+    fair = λ m i. d .fair m (still-waits m i .0);
+    rising = subst (Rising stamp) (sym (settle-waiting p)) (left-rises (floor p) (waitingOf p) (d .rising));
+    above = λ m i. rw (floor-settle p) (still-waits m i .1);
+    alone = none-alone;
+    blanks = slots-blank left (62 - length left);
+    few = λ q l n. let a = d .few q l n in let b = many-settled (floor p) (waitingOf p) (by q) in let c = ap (many (by q)) (settle-waiting p) in omega arith;
+    own-few = rw (settle-waiting p) (own-fits _ _ _ _ _ _ _ next-stands);
+    sum = let a = kinds-most gone in let b = lengths in omega arith;
+    order = order-fits _ _ _ _ _ _ _ next-stands;
+  }
+
+  pub settles-shape : length (p .last) ≡ 16 → Shape (settle p)
+  unfolding settle
+  settles-shape e = record {
+    last = e;
+    slots = let a = lengths in let c = length-replicate (62 - length left) blank in let f = length-append left (replicate (62 - length left) blank) in omega arith;
+  }
+
+  pub settles-width : Width (settle p)
+  unfolding settle
+  settles-width = d .width
