@@ -43,7 +43,7 @@ fn wide(x: u32) -> u64
 }
 
 pub(crate) fn sum(last: [u32; 16]) -> u64
-    ensures { λ r. ⌜ r ≡ sumTo 16 (λ q. getD last q 0) ⌝ }
+    ensures { λ r. ⌜ (r ≡ sumTo 16 (λ q. getD last q 0)) × (r ≤ 2 ^ 36) ⌝ }
 {
     let mut s: u64 = 0;
     let mut q = 0;

@@ -45,7 +45,7 @@ loop-again c =
     (omega arith, omega arith, omega arith)
 
 returns : tie.Need-returns Inv-loop μ-loop
-returns c = let e : c .before .loop .q ≡ 16 = omega arith in rw e at (c .before .loop .inv .1)
+returns c = let e : c .before .loop .q ≡ 16 = omega arith in (rw e at (c .before .loop .inv .1), let h = c .before .loop .inv .2 in omega arith)
 
 pub sum-spec : {M : Type 1} → statement M
 sum-spec =
