@@ -11,3 +11,4 @@ pub mod SetLaws
 pub mod IntLaws
 pub mod RefusalLaws
 pub mod BitLaws
+pub mod ShiftLaws

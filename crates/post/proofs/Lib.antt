@@ -16,4 +16,6 @@ pub mod Remade
 pub mod Stays
 pub mod Starts
 pub mod Looking
+pub mod Leaving
+pub mod Inserting
 pub mod RowsSound

@@ -2,12 +2,14 @@
 use mathlib.Core.Path.{_≡_}
 use mathlib.Core.Bool.{true, _&&_}
 use mathlib.Core.List.{List}
-use Prim.Native.Nat.{ℕ, _<_}
-use lib.ListN.{getD}
+use Prim.Native.Nat.{ℕ, _+_, _<_}
+use lib.ListN.{length, getD}
 use Rattle.laws.specs.Lists.{all, many}
 use Rattle.frame.specs.declared.Message.{Message}
 use Rattle.frame.specs.Message.{isTake, isReturn, by}
 use Rattle.post.specs.declared.slots.Seen.{Seen}
+use Rattle.post.specs.declared.slots.Gone.{Gone}
+use Rattle.post.specs.Settle.{ownNumber}
 use Rattle.post.specs.Sound.{fair, rises, endKind}
 
 -- a look over messages above the floor t
@@ -17,3 +19,10 @@ pub record Looked (posts own : ℕ) (last : List ℕ) (t : ℕ) (ms : List Messa
   pub takes : seen .orderly ≡ true → seen .takes ≡ many (λ m. by own m && isTake m) ms
   pub returns : seen .orderly ≡ true → seen .returns ≡ many (λ m. by own m && isReturn m) ms
   pub end : seen .orderly ≡ true → seen .end ≡ endKind own 0 ms
+
+-- what leaves, after so many takes
+pub record Left (own before : ℕ) (ms : List Message) (gone : Gone) : Type 0 where
+  pub count : gone .count ≡ length ms
+  pub takes : gone .takes ≡ before + many isTake ms
+  pub returns : gone .returns ≡ many isReturn ms
+  pub order : gone .order ≡ ownNumber own before ms

@@ -1,5 +1,5 @@
 pub mod Record
 pub mod Sound
-pub mod Inside
 pub mod Settle
 pub mod Calls
+pub mod Inside

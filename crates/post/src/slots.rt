@@ -3,14 +3,18 @@ use crate::stamp;
 use frame::Message;
 ghost use mathlib.Core.Path.{_≡_};
 ghost use mathlib.Core.Bool.{false, cond, _&&_};
-ghost use Prim.Native.Nat.{_≤_, _<_, _+_};
+ghost use mathlib.Core.List.{_++_};
+ghost use Prim.Native.Nat.{_≤_, _<_, _+_, _^_};
 ghost use lib.Dec.{leb, eqb};
 ghost use lib.ListN.{take, drop};
-ghost use Rattle.laws.specs.Lists.{all, many};
+ghost use Rattle.laws.specs.Lists.{all, many, put, Rising};
 ghost use Rattle.laws.specs.Below.{one?};
-ghost use Rattle.frame.specs.Message.{counted, by};
+ghost use Rattle.frame.specs.Message.{isTake, counted, stamp, by};
+ghost use Rattle.post.specs.Record.{inSlots};
 ghost use Rattle.post.specs.Sound.{isBlank};
-ghost use Rattle.post.specs.Inside.{Looked};
+ghost use Rattle.post.specs.Settle.{upTo};
+ghost use Rattle.post.specs.Calls.{ownStamp};
+ghost use Rattle.post.specs.Inside.{Looked, Left};
 
 pub(crate) const BLANK: Message = Message {
     kind: 0,
@@ -156,4 +160,154 @@ pub(crate) fn blank_from(slots: [Message; 62], n: usize) -> bool
         i += 1;
     }
     true
+}
+
+fn one_of(n: u8, q: u8, m: Message) -> u8
+    requires { ⌜ n < 255 ⌝ }
+    ensures { λ r. ⌜ r ≡ n + one? (by q m) ⌝ }
+{
+    if m.sender == q {
+        return n + 1;
+    }
+    n
+}
+
+// How many of the first n are of the sender q.
+pub(crate) fn count_of(slots: [Message; 62], n: usize, q: u8) -> u8
+    requires { ⌜ n ≤ 62 ⌝ }
+    ensures { λ r. ⌜ r ≡ many (by q) (take n slots) ⌝ }
+{
+    let mut k = 0u8;
+    let mut i = 0;
+    while i < n {
+        k = one_of(k, q, slots[i]);
+        i += 1;
+    }
+    k
+}
+
+// The message m among the first n, whose stamps rise: from the newest down, those above it move one place up.
+pub(crate) fn insert(slots: [Message; 62], n: usize, m: Message) -> [Message; 62]
+    requires { ⌜ (n < 62) × Rising stamp (take n slots) ⌝ }
+    ensures { λ r. ⌜ r ≡ put stamp m (take n slots) ++ drop (n + 1) slots ⌝ }
+{
+    let t = stamp(m.counter, m.sender);
+    let mut next = slots;
+    let mut i = n;
+    while 0 < i {
+        let old = next[i - 1];
+        if stamp(old.counter, old.sender) <= t {
+            break;
+        }
+        next[i] = old;
+        i -= 1;
+    }
+    next[i] = m;
+    next
+}
+
+// What of the first n is settled: how many, and the counts with it.
+pub(crate) struct Gone {
+    pub count: usize,
+    pub takes: u64,
+    pub returns: u64,
+    // the own take's number; 0 where it is not among them
+    pub order: u64,
+}
+
+fn one_kind(n: u64, kind: u8, m: Message) -> u64
+    requires { ⌜ n < 2 ^ 63 ⌝ }
+    ensures { λ r. ⌜ r ≡ n + one? (eqb (m .kind) kind) ⌝ }
+{
+    if m.kind == kind {
+        return n + 1;
+    }
+    n
+}
+
+fn number_of(order: u64, takes: u64, own: u8, m: Message) -> u64
+    requires { ⌜ takes < 2 ^ 63 ⌝ }
+    ensures { λ r. ⌜ r ≡ cond (eqb order 0) (cond (isTake m && by own m) (takes + 1) 0) order ⌝ }
+{
+    if order != 0 {
+        return order;
+    }
+    if m.kind != 1 {
+        return 0;
+    }
+    if m.sender != own {
+        return 0;
+    }
+    takes + 1
+}
+
+pub(crate) fn leaving(slots: [Message; 62], n: usize, floor: u64, own: u8, takes: u64) -> Gone
+    requires { ⌜ (n ≤ 62) × (takes < 2 ^ 62) ⌝ }
+    ensures { λ r. ⌜ Left own takes (upTo floor (take n slots)) r ⌝ }
+{
+    let mut tk = takes;
+    let mut rt = 0u64;
+    let mut order = 0u64;
+    let mut i = 0;
+    while i < n {
+        let m = slots[i];
+        if floor < stamp(m.counter, m.sender) {
+            return Gone {
+                count: i,
+                takes: tk,
+                returns: rt,
+                order,
+            };
+        }
+        order = number_of(order, tk, own, m);
+        tk = one_kind(tk, 1, m);
+        rt = one_kind(rt, 2, m);
+        i += 1;
+    }
+    Gone {
+        count: i,
+        takes: tk,
+        returns: rt,
+        order,
+    }
+}
+
+// The messages from k to n moved to the front, and zeros after them.
+pub(crate) fn drop_first(slots: [Message; 62], n: usize, k: usize) -> [Message; 62]
+    requires { ⌜ (k ≤ n) × (n ≤ 62) ⌝ }
+    ensures { λ r. ⌜ r ≡ inSlots (drop k (take n slots)) ⌝ }
+{
+    let mut next = [BLANK; 62];
+    let m = n - k;
+    let mut j = 0;
+    while j < m {
+        next[j] = slots[k + j];
+        j += 1;
+    }
+    next
+}
+
+fn is_own_take(own: u8, m: Message) -> bool
+    ensures { λ r. ⌜ r ≡ (by own m && isTake m) ⌝ }
+{
+    if m.sender != own {
+        return false;
+    }
+    m.kind == 1
+}
+
+// The stamp of the own take among the first n; 0 where it is not there.
+pub(crate) fn own_stamp(slots: [Message; 62], n: usize, own: u8) -> u64
+    requires { ⌜ n ≤ 62 ⌝ }
+    ensures { λ r. ⌜ r ≡ ownStamp own (take n slots) ⌝ }
+{
+    let mut i = 0;
+    while i < n {
+        let m = slots[i];
+        if is_own_take(own, m) {
+            return stamp(m.counter, m.sender);
+        }
+        i += 1;
+    }
+    0
 }

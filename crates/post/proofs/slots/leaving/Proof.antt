@@ -1,0 +1,90 @@
+-- The invariant says what has been counted and what is still to come (`Leaves`). Assumes nothing.
+use borrow.Author.Needs.{needs}
+use Prim.Native.Nat.{ℕ, _+_, _≤_, _-_}
+use mathlib.Core.Path.{_≡_}
+use mathlib.Core.List.{_∷_}
+use native.Mathlib.Omega.{arith}
+use lib.ListN.{length, getD, take}
+use lib.Seq.{slice, length-take-le}
+use Rattle.frame.specs.Message.{blank}
+use Rattle.post.proofs.Leaving.{Leaves, begun, ended, stopped, turned, step, last-step, small}
+use Rattle.post.proofs.slots.leaving.Statement.{statement}
+use Rattle.post.proofs.slots.leaving.Tie as tie
+
+abbrev Inv-loop : tie.InvT-loop
+Inv-loop n floor own takes slots tk₀ rt₀ order₀ i₀ tk rt order i = (i ≤ n) × Leaves own takes floor (take n slots) (slice i n slots) i tk rt order
+
+abbrev μ-loop : tie.MeasureT-loop
+μ-loop n floor own takes slots tk₀ rt₀ order₀ i₀ tk rt order i = n - i
+
+long : (c : tie.Start Inv-loop μ-loop) → length (c .args .t1) ≡ 62
+long c = search needs
+
+few : (c : tie.Start Inv-loop μ-loop) → length (take (c .args .n) (c .args .t1)) ≤ 62
+few c = let l = long c in let w = length-take-le (c .args .n) (c .args .t1) (omega arith) in omega arith
+
+-- the message that is looked at, and those after it
+leaves : (b : tie.In-loop Inv-loop μ-loop)
+    → let a = b .before .before .args in let k = b .before .loop in
+    Leaves (a .own) (a .takes) (a .floor) (take (a .n) (a .t1)) (getD (a .t1) (k .i) blank ∷ slice (k .i + 1) (a .n) (a .t1)) (k .i) (k .tk) (k .rt) (k .order)
+leaves b =
+    let a = b .before .before .args in
+    let l = long (b .before .before) in
+    step _ _ _ _ (a .t1) (b .before .loop .i) (a .n) (omega arith) (omega arith) (b .before .loop .inv .1)
+
+loop-holds : tie.Need-loop-holds Inv-loop μ-loop
+loop-holds c = (omega arith, begun _ _ _ _)
+
+mul-m : tie.Need-mul-m Inv-loop μ-loop
+mul-m c = search needs
+
+array-copy-out-m : tie.Need-array-copy-out-m Inv-loop μ-loop
+array-copy-out-m c = search needs
+
+stamp-requires : tie.Need-stamp-requires Inv-loop μ-loop
+stamp-requires c κs = search needs
+
+returns : tie.Need-returns Inv-loop μ-loop
+returns c = stopped _ _ _ _ (leaves (c .before .before .before)) (let e = c .before .stamp .ensures in omega arith)
+
+number-of-requires : tie.Need-number-of-requires Inv-loop μ-loop
+number-of-requires c κs = small _ _ _ _ (search needs) (few (c .before .before .before .before .before)) (leaves (c .before .before .before)) .0
+
+one-kind-requires : tie.Need-one-kind-requires Inv-loop μ-loop
+one-kind-requires c κs = small _ _ _ _ (search needs) (few (c .before .before .before .before .before .before)) (leaves (c .before .before .before .before)) .0
+
+one-kind-requires-2 : tie.Need-one-kind-requires-2 Inv-loop μ-loop
+one-kind-requires-2 c κs = small _ _ _ _ (search needs) (few (c .before .before .before .before .before .before .before)) (leaves (c .before .before .before .before .before)) .1
+
+add-i : tie.Need-add-i Inv-loop μ-loop
+add-i c = search needs
+
+loop-less : tie.Need-loop-less Inv-loop μ-loop
+loop-less c = search needs
+
+loop-again : tie.Need-loop-again Inv-loop μ-loop
+loop-again c = (omega arith, turned _ _ _ _ (leaves (c .before .before .before .before .before .before)) (let e = c .before .before .before .before .stamp .ensures in omega arith) (c .before .one-kind .ensures) (c .one-kind2 .ensures) (c .before .before .number-of .ensures))
+
+returns-2 : tie.Need-returns-2 Inv-loop μ-loop
+returns-2 c =
+    let b = c .before in
+    ended _ _ _ _ (last-step _ _ _ _ (b .before .args .t1) (b .loop .i) (b .before .args .n) (omega arith) (omega arith) (b .loop .inv .1))
+
+pub leaving-spec : {M : Type 1} → statement M
+leaving-spec =
+    tie.close
+    (tie.spec
+    Inv-loop
+    μ-loop
+    loop-holds
+    mul-m
+    array-copy-out-m
+    stamp-requires
+    returns
+    number-of-requires
+    one-kind-requires
+    one-kind-requires-2
+    add-i
+    loop-less
+    loop-again
+    returns-2)
