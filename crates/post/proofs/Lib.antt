@@ -18,4 +18,5 @@ pub mod Starts
 pub mod Looking
 pub mod Leaving
 pub mod Inserting
+pub mod Remaking
 pub mod RowsSound

@@ -2,11 +2,12 @@
 use mathlib.Core.Path.{_≡_}
 use mathlib.Core.Bool.{true, _&&_}
 use mathlib.Core.List.{List}
-use Prim.Native.Nat.{ℕ, _+_, _<_}
+use Prim.Native.Nat.{ℕ, _+_, _≤_, _<_, _^_}
 use lib.ListN.{length, getD}
 use Rattle.laws.specs.Lists.{all, many}
 use Rattle.frame.specs.declared.Message.{Message}
 use Rattle.frame.specs.Message.{isTake, isReturn, by}
+use Rattle.post.specs.declared.Post.{Post}
 use Rattle.post.specs.declared.slots.Seen.{Seen}
 use Rattle.post.specs.declared.slots.Gone.{Gone}
 use Rattle.post.specs.Settle.{ownNumber}
@@ -26,3 +27,10 @@ pub record Left (own before : ℕ) (ms : List Message) (gone : Gone) : Type 0 wh
   pub takes : gone .takes ≡ before + many isTake ms
   pub returns : gone .returns ≡ many isReturn ms
   pub order : gone .order ≡ ownNumber own before ms
+
+-- ranges in which what is settled can be counted
+pub record Countable (p : Post) : Type 0 where
+  pub posts : p .posts ≤ 16
+  pub waits : p .waits ≤ 62
+  pub takes : p .takes < 2 ^ 62
+  pub returns : p .returns < 2 ^ 62

@@ -5,7 +5,7 @@ mod slots;
 
 use frame::Message;
 ghost use mathlib.Core.Path.{_≡_};
-ghost use mathlib.Core.Bool.{true, not, _&&_};
+ghost use mathlib.Core.Bool.{true, cond, not, _&&_};
 ghost use Prim.Native.Nat.{_≤_, _<_, _+_, _^_, max};
 ghost use lib.Dec.{eqb, T};
 ghost use lib.ListN.{length};
@@ -14,6 +14,8 @@ ghost use Rattle.frame.specs.Message.{msg, counted, lastCounter, stampOf};
 ghost use Rattle.frame.specs.Frame.{fieldsOf};
 ghost use Rattle.post.specs.Record.{fresh};
 ghost use Rattle.post.specs.Sound.{inRange, numberRules, slotRules, countRules, sound};
+ghost use Rattle.post.specs.Settle.{orderAfter, phaseAfter, settle};
+ghost use Rattle.post.specs.Inside.{Countable};
 ghost use Rattle.post.specs.Calls.{started, spoken, came, noted, ackClock, takeRows, returnRows, senderRows, turnRows, receiveRows, done, refused, over, Gives, took, tookBytes, gaveBack, gaveBackBytes, received, receivedBytes, valued, missed};
 
 // Document 01's record, its fields in 01's order and widths.
@@ -66,6 +68,42 @@ pub(crate) fn stamp(counter: u32, post: u8) -> u64
     ensures { λ r. ⌜ r ≡ stampOf counter post ⌝ }
 {
     256 * counter as u64 + post as u64
+}
+
+fn larger(a: u32, b: u32) -> u32
+    ensures { λ r. ⌜ r ≡ max a b ⌝ }
+{
+    if a < b {
+        return b;
+    }
+    a
+}
+
+fn phase_after(phase: u8, order: u64, room: u64) -> u8
+    ensures { λ r. ⌜ r ≡ phaseAfter phase order room ⌝ }
+{
+    if phase == 0 {
+        return 0;
+    }
+    if phase == 3 {
+        return 3;
+    }
+    if order == 0 {
+        return 1;
+    }
+    if order <= room {
+        return 3;
+    }
+    2
+}
+
+fn order_after(phase: u8, order: u64, found: u64) -> u64
+    ensures { λ r. ⌜ r ≡ cond (eqb phase 1) found order ⌝ }
+{
+    if phase == 1 {
+        return found;
+    }
+    order
 }
 
 impl Post {
@@ -180,5 +218,94 @@ impl Post {
             return false;
         }
         self.counts_sound()
+    }
+
+    // The record with an own take or return, before anything is settled.
+    fn spoken(mut self, kind: u8, phase: u8) -> Self
+        requires { ⌜ T (sound self) × (self .clock < lastCounter) ⌝ }
+        ensures { λ r. ⌜ r ≡ spoken self kind phase ⌝ }
+    {
+        let own = self.own;
+        let waits = self.waits;
+        let slots = self.slots;
+        let c = self.clock + 1;
+        let m = Message {
+            kind,
+            sender: own,
+            counter: c,
+        };
+        let next = slots::insert(slots, waits as usize, m);
+        let at = own as usize;
+        self.last[at] = c;
+        self.clock = c;
+        self.waits = waits + 1;
+        self.slots = next;
+        self.phase = phase;
+        self.order = 0;
+        self
+    }
+
+    // The record with a take or return received and the acknowledgment sent for it.
+    fn came(mut self, m: Message) -> Self
+        requires { ⌜ T (sound self) × (m .sender < self .posts) × (max (self .clock) (m .counter) < lastCounter) ⌝ }
+        ensures { λ r. ⌜ r ≡ came self m ⌝ }
+    {
+        let own = self.own;
+        let waits = self.waits;
+        let slots = self.slots;
+        let c = larger(self.clock, m.counter) + 1;
+        let next = slots::insert(slots, waits as usize, m);
+        let from = m.sender as usize;
+        let at = own as usize;
+        self.last[from] = m.counter;
+        self.last[at] = c;
+        self.clock = c;
+        self.waits = waits + 1;
+        self.slots = next;
+        self
+    }
+
+    // The record with an acknowledgment received.
+    fn noted(mut self, m: Message) -> Self
+        requires { ⌜ T (sound self) × (m .sender < self .posts) ⌝ }
+        ensures { λ r. ⌜ r ≡ noted self m ⌝ }
+    {
+        let from = m.sender as usize;
+        let c = larger(self.clock, m.counter);
+        self.last[from] = m.counter;
+        self.clock = c;
+        self
+    }
+
+    // The record after what is settled has left the slots and is counted.
+    fn settled(self) -> Self
+        requires { ⌜ Countable self ⌝ }
+        ensures { λ r. ⌜ r ≡ settle self ⌝ }
+    {
+        let last = self.last;
+        let slots = self.slots;
+        let own = self.own;
+        let n = self.waits as usize;
+        let floor = lasts::floor(last, self.posts as usize, own as usize);
+        let gone = slots::leaving(slots, n, floor, own, self.takes);
+        let k = gone.count;
+        let left = slots::drop_first(slots, n, k);
+        let returns = self.returns + gone.returns;
+        let order = order_after(self.phase, self.order, gone.order);
+        let phase = phase_after(self.phase, order, self.places as u64 + returns);
+        Self {
+            posts: self.posts,
+            own,
+            feeder: self.feeder,
+            places: self.places,
+            clock: self.clock,
+            last,
+            waits: (n - k) as u8,
+            slots: left,
+            takes: gone.takes,
+            returns,
+            phase,
+            order,
+        }
     }
 }

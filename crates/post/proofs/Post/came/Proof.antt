@@ -1,0 +1,75 @@
+use borrow.Author.Needs.{needs}
+use Prim.Native.Nat.{ℕ, _+_, _<_}
+use mathlib.Core.Path.{_∙_, ap}
+use native.Mathlib.Omega.{arith}
+use lib.ListN.{set, length-set}
+use Rattle.laws.specs.Lists.{put}
+use Rattle.frame.specs.Message.{stamp}
+use Rattle.post.specs.Record.{waitingOf, remade}
+use Rattle.post.specs.Calls.{came}
+use Rattle.post.proofs.SoundFacts.{sound-has}
+use Rattle.post.proofs.Shape.{Kept}
+use Rattle.post.proofs.Remaking.{length-mapped, with-message, has-room}
+use Rattle.post.proofs.Post.came.Statement.{statement}
+use Rattle.post.proofs.Post.came.Tie as tie
+
+kept : (c : tie.Start) → Kept (c .args .t1)
+kept c = record { sound = c .pre .0; shape = record { last = search needs; slots = search (length-mapped, needs) }; width = search needs }
+
+larger-requires : tie.Need-larger-requires
+larger-requires c κs = search needs
+
+add-c : tie.Need-add-c
+add-c c = search needs
+
+cast-insert : tie.Need-cast-insert
+cast-insert c = search needs
+
+insert-requires : tie.Need-insert-requires
+insert-requires c κs = let k = kept (c .before .before) in (has-room _ k, sound-has _ (k .sound) .rising)
+
+cast-from : tie.Need-cast-from
+cast-from c = search needs
+
+cast-at : tie.Need-cast-at
+cast-at c = search needs
+
+mul-self : tie.Need-mul-self
+mul-self c = search needs
+
+element-write-self : tie.Need-element-write-self
+element-write-self c = let b = sound-has _ (c .before .before .before .before .pre .0) .posts-high in let m = c .before .before .before .before .pre .1 in search needs
+
+mul-self-2 : tie.Need-mul-self-2
+mul-self-2 c = search needs
+
+element-write-self-2 : tie.Need-element-write-self-2
+element-write-self-2 c = let s = sound-has _ (c .before .before .before .before .pre .0) in let a = s .own in let b = s .posts-high in search needs
+
+add-self : tie.Need-add-self
+add-self c = let h = has-room _ (kept (c .before .before .before .before)) in search needs
+
+returns : tie.Need-returns
+unfolding came
+returns c =
+    let p = c .before .before .before .before .args .t1 in
+    let m = c .before .before .before .before .args .m in
+    with-message p (kept (c .before .before .before .before)) _ _ m _ _ _ (c .before .insert .ensures)
+    ∙ ap (λ (x : ℕ). remade p (x + 1) (set (set (p .last) (m .sender) (m .counter)) (p .own) (x + 1)) (put stamp m (waitingOf p)) (p .phase) (p .order)) (c .before .before .larger .ensures)
+
+pub came-spec : {M : Type 1} → statement M
+came-spec =
+    tie.close
+    (tie.spec
+    larger-requires
+    add-c
+    cast-insert
+    insert-requires
+    cast-from
+    cast-at
+    mul-self
+    element-write-self
+    mul-self-2
+    element-write-self-2
+    add-self
+    returns)

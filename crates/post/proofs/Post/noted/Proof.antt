@@ -1,0 +1,38 @@
+use borrow.Author.Needs.{needs}
+use Prim.Native.Nat.{ℕ, _<_}
+use mathlib.Core.Path.{_∙_, ap}
+use native.Mathlib.Omega.{arith}
+use lib.ListN.{set}
+use Rattle.post.specs.Record.{waitingOf, remade}
+use Rattle.post.specs.Calls.{noted}
+use Rattle.post.proofs.SoundFacts.{sound-has}
+use Rattle.post.proofs.Shape.{Kept}
+use Rattle.post.proofs.Remaking.{length-mapped, without-message}
+use Rattle.post.proofs.Post.noted.Statement.{statement}
+use Rattle.post.proofs.Post.noted.Tie as tie
+
+kept : (c : tie.Start) → Kept (c .args .t1)
+kept c = record { sound = c .pre .0; shape = record { last = search needs; slots = search (length-mapped, needs) }; width = search needs }
+
+cast-from : tie.Need-cast-from
+cast-from c = search needs
+
+larger-requires : tie.Need-larger-requires
+larger-requires c κs = search needs
+
+mul-self : tie.Need-mul-self
+mul-self c = search needs
+
+element-write-self : tie.Need-element-write-self
+element-write-self c = let b = sound-has _ (c .before .before .pre .0) .posts-high in let m = c .before .before .pre .1 in search needs
+
+returns : tie.Need-returns
+unfolding noted
+returns c =
+    let p = c .before .before .args .t1 in
+    let m = c .before .before .args .m in
+    without-message p (kept (c .before .before)) _ _
+    ∙ ap (λ (x : ℕ). remade p x (set (p .last) (m .sender) (m .counter)) (waitingOf p) (p .phase) (p .order)) (c .larger .ensures)
+
+pub noted-spec : {M : Type 1} → statement M
+noted-spec = tie.close (tie.spec cast-from larger-requires mul-self element-write-self returns)

@@ -1,0 +1,170 @@
+-- The record that the code makes, as the definitions make it anew. Assumes nothing.
+use mathlib.Core.Path.{_≡_, refl, ap, ap₂, _∙_, sym}
+use mathlib.Core.List.{List, _++_, map}
+use Prim.Native.Nat.{ℕ, suc, _+_, _-_, _≤_, _<_}
+use native.Mathlib.Omega.{arith}
+use native.Mathlib.Numerals.{add-one}
+use mathlib.Core.Bool.{cond}
+use lib.Dec.{eqb}
+use lib.ListN.{length, getD, take, drop, replicate, length-drop, length-map, take-append-drop}
+use lib.Seq.{drop-drop}
+use Rattle.laws.specs.Lists.{many, put}
+use Rattle.laws.proofs.CountLaws.{length-put}
+use Rattle.laws.proofs.ShiftLaws.{drop-replicate}
+use Rattle.frame.specs.declared.Message.{Message}
+use Rattle.frame.specs.Message.{blank, isTake, isReturn, stampOf, stamp}
+use Rattle.post.specs.declared.Post.{Post}
+use Rattle.post.specs.declared.slots.Gone.{Gone}
+use Rattle.post.specs.Record.{waitingOf, leastTo, floor, inSlots, remade}
+use Rattle.post.specs.Settle.{upTo, ownNumber, orderAfter, phaseAfter, settle}
+use Rattle.post.specs.Inside.{Left}
+use Rattle.post.proofs.SoundFacts.{Sound, sound-has}
+use Rattle.post.proofs.Shape.{Shape, Width, Kept, length-waiting}
+use Rattle.post.proofs.Most.{most}
+
+-- the length of an array of structs, from the list of what it denotes
+pub length-mapped : (X Y : Type 0) (f : X → Y) (l : List X) (n : ℕ) → length (map f l) ≡ n → length l ≡ n
+length-mapped X Y f l n e = sym (length-map l f) ∙ e
+
+module _ (p : Post) (k : Kept p) where
+  facts : Sound p
+  facts = sound-has p (k .sound)
+
+  unused : (i : ℕ) → p .waits ≤ i → drop i (p .slots) ≡ replicate (62 - i) blank
+  unfolding facts
+  unused i h =
+      let s = facts in
+      let shape = k .shape .slots in
+      let n = length-drop (p .waits) (p .slots) in
+      let w = s .waits in
+      let k : length (drop (p .waits) (p .slots)) - (i - p .waits) ≡ 62 - i = omega arith in
+      ap (λ (x : ℕ). drop x (p .slots)) (let e : i ≡ p .waits + (i - p .waits) = omega arith in e)
+      ∙ sym (drop-drop (i - p .waits) (p .waits) (p .slots))
+      ∙ ap (drop (i - p .waits)) (s .blanks)
+      ∙ drop-replicate (i - p .waits) (length (drop (p .waits) (p .slots))) blank
+      ∙ ap (λ (x : ℕ). replicate x blank) k
+
+  waits-is : length (waitingOf p) ≡ p .waits
+  unfolding facts
+  waits-is = length-waiting p facts (k .shape)
+
+  -- one message more
+  pub with-message : (clock : ℕ) (last : List ℕ) (m : Message) (slots : List Message) (phase order : ℕ)
+      → slots ≡ put stamp m (waitingOf p) ++ drop (p .waits + 1) (p .slots)
+      → record {
+        posts = p .posts;
+        own = p .own;
+        feeder = p .feeder;
+        places = p .places;
+        clock = clock;
+        last = last;
+        waits = p .waits + 1;
+        slots = slots;
+        takes = p .takes;
+        returns = p .returns;
+        phase = phase;
+        order = order;
+      } ≡ remade p clock last (put stamp m (waitingOf p)) phase order
+  unfolding remade
+  with-message clock last m slots phase order e =
+      let ms = put stamp m (waitingOf p) in
+      let n : p .waits + 1 ≡ length ms = (let a = length-put stamp m (waitingOf p) in let b = waits-is in omega arith) in
+      let f : slots ≡ inSlots ms = e ∙ ap (λ (x : List Message). ms ++ x) (unused (p .waits + 1) (omega arith) ∙ ap (λ (x : ℕ). replicate (62 - x) blank) n) in
+      λ i. record {
+        posts = p .posts;
+        own = p .own;
+        feeder = p .feeder;
+        places = p .places;
+        clock = clock;
+        last = last;
+        waits = n i;
+        slots = f i;
+        takes = p .takes;
+        returns = p .returns;
+        phase = phase;
+        order = order;
+      }
+
+  -- the same messages
+  pub without-message : (clock : ℕ) (last : List ℕ)
+      → record {
+        posts = p .posts;
+        own = p .own;
+        feeder = p .feeder;
+        places = p .places;
+        clock = clock;
+        last = last;
+        waits = p .waits;
+        slots = p .slots;
+        takes = p .takes;
+        returns = p .returns;
+        phase = p .phase;
+        order = p .order;
+      } ≡ remade p clock last (waitingOf p) (p .phase) (p .order)
+  unfolding remade
+  without-message clock last =
+      let n : p .waits ≡ length (waitingOf p) = sym waits-is in
+      let f : p .slots ≡ inSlots (waitingOf p) =
+      sym (take-append-drop (p .waits) (p .slots)) ∙ ap (λ (x : List Message). waitingOf p ++ x) (unused (p .waits) (omega arith) ∙ ap (λ (x : ℕ). replicate (62 - x) blank) n) in
+      λ i. record {
+        posts = p .posts;
+        own = p .own;
+        feeder = p .feeder;
+        places = p .places;
+        clock = clock;
+        last = last;
+        waits = n i;
+        slots = f i;
+        takes = p .takes;
+        returns = p .returns;
+        phase = p .phase;
+        order = p .order;
+      }
+
+  pub has-room : p .waits < 62
+  has-room = let h = most p (k .shape) (k .width) (k .sound) in omega arith
+
+-- what is settled has left
+pub settles-as : (p : Post) (f : ℕ) (gone : Gone) (slots : List Message) (phase order : ℕ) → length (waitingOf p) ≡ p .waits
+    → f ≡ leastTo (p .posts) (p .own) (λ q. stampOf (getD (p .last) q 0) q)
+    → Left (p .own) (p .takes) (upTo f (waitingOf p)) gone
+    → slots ≡ inSlots (drop (gone .count) (waitingOf p))
+    → order ≡ cond (eqb (p .phase) 1) (gone .order) (p .order)
+    → phase ≡ phaseAfter (p .phase) order (p .places + (p .returns + gone .returns))
+    → record {
+      posts = p .posts;
+      own = p .own;
+      feeder = p .feeder;
+      places = p .places;
+      clock = p .clock;
+      last = p .last;
+      waits = p .waits - gone .count;
+      slots = slots;
+      takes = gone .takes;
+      returns = p .returns + gone .returns;
+      phase = phase;
+      order = order;
+    } ≡ settle p
+unfolding settle floor orderAfter
+settles-as p f gone slots phase order len pf g ps po pp =
+    let ws = waitingOf p in
+    let out : upTo f ws ≡ upTo (floor p) ws = ap (λ (x : ℕ). upTo x ws) pf in
+    let k : gone .count ≡ length (upTo (floor p) ws) = g .count ∙ ap length out in
+    let left : p .waits - gone .count ≡ length (drop (length (upTo (floor p) ws)) ws) = (let a = length-drop (length (upTo (floor p) ws)) ws in omega arith) in
+    let rt : p .returns + gone .returns ≡ p .returns + many isReturn (upTo (floor p) ws) = ap (λ (x : ℕ). p .returns + x) (g .returns ∙ ap (many isReturn) out) in
+    let o : order ≡ cond (eqb (p .phase) 1) (ownNumber (p .own) (p .takes) (upTo (floor p) ws)) (p .order) =
+    po ∙ ap (λ (x : ℕ). cond (eqb (p .phase) 1) x (p .order)) (g .order ∙ ap (ownNumber (p .own) (p .takes)) out) in
+    λ i. record {
+      posts = p .posts;
+      own = p .own;
+      feeder = p .feeder;
+      places = p .places;
+      clock = p .clock;
+      last = p .last;
+      waits = left i;
+      slots = (ps ∙ ap (λ (x : ℕ). inSlots (drop x ws)) k) i;
+      takes = (g .takes ∙ ap (λ (l : List Message). p .takes + many isTake l) out) i;
+      returns = rt i;
+      phase = (pp ∙ ap₂ (λ (x y : ℕ). phaseAfter (p .phase) x (p .places + y)) o rt) i;
+      order = o i;
+    }
