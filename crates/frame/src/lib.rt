@@ -6,7 +6,7 @@ ghost use lib.ListN.{length, drop};
 ghost use Rattle.laws.specs.Big.{ofBe, fieldsIn};
 ghost use Rattle.laws.specs.Ladder.{refusal};
 ghost use Rattle.frame.specs.Message.{msg};
-ghost use Rattle.frame.specs.Frame.{frame, widths, fieldsFrom, fieldsOf, messageRows, readRows, readFrame, writeRows, Written};
+ghost use Rattle.frame.specs.Frame.{frame, widths, fieldsFrom, fieldsOf, formRows, messageRows, readRows, readFrame, writeRows, Written};
 
 // A message: its kind, and its stamp of counter and sender.
 pub struct Message {
@@ -73,8 +73,9 @@ fn message_number(m: Message) -> u8
     0
 }
 
-fn read_number(len: usize, f: Fields) -> u8
-    ensures { λ r. ⌜ r ≡ refusal (readRows len f) ⌝ }
+// The refusals of bytes that are no frame, whatever message they hold.
+pub fn form_number(len: usize, f: Fields) -> u8
+    ensures { λ r. ⌜ r ≡ refusal (formRows len f) ⌝ }
 {
     if len != LENGTH {
         return 3;
@@ -84,6 +85,16 @@ fn read_number(len: usize, f: Fields) -> u8
     }
     if f.version != VERSION {
         return 5;
+    }
+    0
+}
+
+fn read_number(len: usize, f: Fields) -> u8
+    ensures { λ r. ⌜ r ≡ refusal (readRows len f) ⌝ }
+{
+    let number = form_number(len, f);
+    if number != 0 {
+        return number;
     }
     let m = f.message;
     message_number(m)

@@ -1,7 +1,7 @@
 -- A case of a definition by tests, from what the code's tests say: rules for `search`. And what a table's 0 says. Assumes nothing.
 use Prim.Native.Nat.{ℕ, _≤_, _<_}
 use native.Mathlib.Omega.{arith}
-use mathlib.Core.List.{List, [], _∷_}
+use mathlib.Core.List.{List, [], _∷_, _++_}
 use lib.Dec.{T, ltb, leb, ltb→lt, leb→le, le→leb}
 use Rattle.laws.proofs.Tests.{and-l, and-r, same-test}
 use Rattle.laws.specs.Ladder.{Row, refusal}
@@ -91,3 +91,17 @@ unrefused (r ∷ rows) q = rw (q .0) (unrefused rows (q .1))
 -- two orders that say the same
 pub same-leb : (a b c d : ℕ) → (a ≤ b → c ≤ d) → (c ≤ d → a ≤ b) → leb a b ≡ leb c d
 same-leb a b c d f g = same-test (leb a b) (leb c d) (λ t. le→leb c d (f (leb→le a b t))) (λ t. le→leb a b (g (leb→le c d t)))
+
+-- two tables one after the other: the first refuses, or the second is left
+pub first-refuses : (xs ys : List Row) → (refusal xs ≡ 0 → ⊥) → refusal xs ≡ refusal (xs ++ ys)
+first-refuses [] ys n = absurd (n refl)
+first-refuses (r ∷ xs) ys n = go (r .test) n (first-refuses xs ys)
+  where
+    go : (t : Bool) → (cond t (r .number) (refusal xs) ≡ 0 → ⊥) → ((refusal xs ≡ 0 → ⊥) → refusal xs ≡ refusal (xs ++ ys))
+        → cond t (r .number) (refusal xs) ≡ cond t (r .number) (refusal (xs ++ ys))
+    go true n f = refl
+    go false n f = f n
+
+pub first-passes : (xs ys : List Row) → Quiet xs → refusal ys ≡ refusal (xs ++ ys)
+first-passes [] ys q = refl
+first-passes (r ∷ xs) ys q = first-passes xs ys (q .1) ∙ ap (λ (b : Bool). cond b (r .number) (refusal (xs ++ ys))) (sym (q .0))

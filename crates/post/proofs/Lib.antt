@@ -20,3 +20,4 @@ pub mod Leaving
 pub mod Inserting
 pub mod Remaking
 pub mod RowsSound
+pub mod RowsReceive

@@ -6,10 +6,11 @@ mod slots;
 use frame::Message;
 ghost use mathlib.Core.Path.{_≡_};
 ghost use mathlib.Core.Bool.{true, cond, not, _&&_};
+ghost use mathlib.Core.List.{[], _∷_};
 ghost use Prim.Native.Nat.{_≤_, _<_, _+_, _^_, max};
-ghost use lib.Dec.{eqb, T};
+ghost use lib.Dec.{eqb, ltb, leb, T};
 ghost use lib.ListN.{length};
-ghost use Rattle.laws.specs.Ladder.{refusal, every};
+ghost use Rattle.laws.specs.Ladder.{_when_, refusal, every};
 ghost use Rattle.frame.specs.Message.{msg, counted, lastCounter, stampOf};
 ghost use Rattle.frame.specs.Frame.{fieldsOf};
 ghost use Rattle.post.specs.Record.{fresh};
@@ -69,6 +70,9 @@ pub(crate) fn stamp(counter: u32, post: u8) -> u64
 {
     256 * counter as u64 + post as u64
 }
+
+// The last counter there is.
+const LAST: u32 = 4294967295;
 
 fn larger(a: u32, b: u32) -> u32
     ensures { λ r. ⌜ r ≡ max a b ⌝ }
@@ -307,5 +311,95 @@ impl Post {
             phase,
             order,
         }
+    }
+
+    // An own message goes out in one phase alone; in another the number is `other`.
+    fn own_number(self, phase: u8, other: u8, len: usize) -> u8
+        ensures { λ r. ⌜ r ≡ refusal (1 when not (sound self) ∷ 2 when ltb len 12 ∷ other when not (eqb (self .phase) phase) ∷ 11 when leb lastCounter (self .clock) ∷ []) ⌝ }
+    {
+        if !self.sound() {
+            return 1;
+        }
+        if len < Self::FRAME {
+            return 2;
+        }
+        if self.phase != phase {
+            return other;
+        }
+        if LAST <= self.clock {
+            return 11;
+        }
+        0
+    }
+
+    fn sender_number(self, m: Message) -> u8
+        ensures { λ r. ⌜ r ≡ refusal (senderRows self m) ⌝ }
+    {
+        if m.kind < 1 {
+            return 7;
+        }
+        if 3 < m.kind {
+            return 7;
+        }
+        if m.sender == self.own {
+            return 8;
+        }
+        if self.posts <= m.sender {
+            return 8;
+        }
+        if m.counter == 0 {
+            return 9;
+        }
+        0
+    }
+
+    fn turn_number(self, m: Message) -> u8
+        requires { ⌜ T (sound self) × (m .sender < self .posts) ⌝ }
+        ensures { λ r. ⌜ r ≡ refusal (turnRows self m) ⌝ }
+    {
+        let last = self.last;
+        let from = m.sender as usize;
+        if m.counter <= last[from] {
+            return 10;
+        }
+        if !slots::is_counted(m) {
+            return 0;
+        }
+        if LAST <= self.clock {
+            return 11;
+        }
+        if LAST <= m.counter {
+            return 11;
+        }
+        let slots = self.slots;
+        if Self::WAITING <= slots::count_of(slots, self.waits as usize, m.sender) {
+            return 12;
+        }
+        0
+    }
+
+    fn receive_number(self, frame: &[u8], len: usize) -> u8
+        ensures { λ r. ⌜ r ≡ refusal (receiveRows self (now (frame .entry)) len) ⌝ }
+    {
+        if !self.sound() {
+            return 1;
+        }
+        if len < Self::FRAME {
+            return 2;
+        }
+        let f = frame::split(frame);
+        let form = frame::form_number(frame.len(), f);
+        if form != 0 {
+            return form;
+        }
+        if f.feeder != self.feeder {
+            return 6;
+        }
+        let m = f.message;
+        let sender = self.sender_number(m);
+        if sender != 0 {
+            return sender;
+        }
+        self.turn_number(m)
     }
 }

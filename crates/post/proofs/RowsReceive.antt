@@ -1,0 +1,60 @@
+-- The rows of receive, as the code goes through them. Assumes nothing.
+use mathlib.Core.Path.{_≡_, refl, ap, _∙_, sym}
+use mathlib.Core.Bool.{Bool, true, false, not, _||_, true≢false}
+use mathlib.Core.List.{List, [], _∷_, _++_}
+use Prim.Native.Nat.{ℕ, _≤_, _<_}
+use borrow.Author.Tests.{lt-ltb, le-ltb, eq-eqb, ne-eqb, leb-false}
+use lib.Dec.{T, ltb, leb, eqb}
+use lib.ListN.{length}
+use Rattle.laws.specs.Ladder.{Row, _when_, refusal}
+use Rattle.laws.proofs.Ladders.{on, off, not-on, not-off, quiet, first-refuses, first-passes}
+use Rattle.frame.specs.declared.Fields.{Fields}
+use Rattle.frame.specs.declared.Message.{Message}
+use Rattle.frame.specs.Frame.{fieldsOf, formRows}
+use Rattle.post.specs.declared.Post.{Post}
+use Rattle.post.specs.Sound.{sound}
+use Rattle.post.specs.Calls.{senderRows, turnRows, receiveRows}
+
+module _ (p : Post) (s : List ℕ) (n : ℕ) (f : Fields) (e : f ≡ fieldsOf s) where
+  -- the rows, from the fields that were split off
+  abbrev after-form : Fields → List Row
+  after-form x = 6 when not (eqb (x .feeder) (p .feeder)) ∷ senderRows p (x .message) ++ turnRows p (x .message)
+
+  abbrev rows : Fields → List Row
+  rows x = 1 when not (sound p) ∷ 2 when ltb n 12 ∷ formRows (length s) x ++ after-form x
+
+  are-rows : {r : ℕ} → r ≡ refusal (rows f) → r ≡ refusal (receiveRows p s n)
+  unfolding receiveRows
+  are-rows h = h ∙ ap (λ (x : Fields). refusal (rows x)) e
+
+  module _ (y : not (sound p) ≡ false) (l : 12 ≤ n) {a : ℕ} (ea : a ≡ refusal (formRows (length s) f)) where
+    pub no-form : (a ≡ 0 → ⊥) → a ≡ refusal (receiveRows p s n)
+    no-form z = are-rows (off _ _ _ y (off _ _ _ (le-ltb n 12 l) (ea ∙ first-refuses (formRows (length s) f) (after-form f) (λ q. z (ea ∙ q)))))
+
+    formed : a ≡ 0 → {r : ℕ} → r ≡ refusal (after-form f)
+        → r ≡ refusal (receiveRows p s n)
+    unfolding formRows
+    formed z h = are-rows (off _ _ _ y (off _ _ _ (le-ltb n 12 l) (h ∙ first-passes (formRows (length s) f) (after-form f) (quiet (formRows (length s) f) tt (sym ea ∙ z)))))
+
+    pub elsewhere : a ≡ 0 → (f .feeder ≡ p .feeder → ⊥) → 6 ≡ refusal (receiveRows p s n)
+    elsewhere z d = formed z (on _ _ _ (not-on _ (ne-eqb _ _ d)) refl)
+
+    module _ (z : a ≡ 0) (d : f .feeder ≡ p .feeder) {b : ℕ} (eb : b ≡ refusal (senderRows p (f .message))) where
+      here : {r : ℕ} → r ≡ refusal (senderRows p (f .message) ++ turnRows p (f .message)) → r ≡ refusal (receiveRows p s n)
+      here h = formed z (off _ _ _ (not-off _ (eq-eqb _ _ d)) h)
+
+      pub no-sender : (b ≡ 0 → ⊥) → b ≡ refusal (receiveRows p s n)
+      no-sender w = here (eb ∙ first-refuses (senderRows p (f .message)) (turnRows p (f .message)) (λ q. w (eb ∙ q)))
+
+      pub sent-by : b ≡ 0 → {r : ℕ} → r ≡ refusal (turnRows p (f .message)) → r ≡ refusal (receiveRows p s n)
+      unfolding senderRows
+      sent-by w h = here (h ∙ first-passes (senderRows p (f .message)) (turnRows p (f .message)) (quiet (senderRows p (f .message)) tt (sym eb ∙ w)))
+
+-- a sender that the rows let pass is on the feeder
+pub on-feeder : (p : Post) (m : Message) → refusal (senderRows p m) ≡ 0 → m .sender < p .posts
+unfolding senderRows
+on-feeder p m e = leb-false (p .posts) (m .sender) (second (eqb (m .sender) (p .own)) _ (quiet (senderRows p m) tt e .1 .0))
+  where
+    second : (a b : Bool) → a || b ≡ false → b ≡ false
+    second true b q = absurd (true≢false q)
+    second false b q = q
