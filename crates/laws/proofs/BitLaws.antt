@@ -8,6 +8,7 @@ use lib.Dec.{lit<}
 use lib.Pow.{shl-exact, pow-mono}
 use lib.Count.{ones, ones-cat}
 use Rattle.laws.specs.Below.{sumTo, one?, countTo, bitsTo}
+use Rattle.laws.proofs.BelowLaws.{sumTo-cong, sumTo-zero}
 use Rattle.laws.proofs.ScanLaws.{sumTo-more}
 
 -- the code's `1 << r` in w bits, and room for the sum
@@ -43,3 +44,13 @@ module _ (f : ℕ → Bool) where
 
   pub bits-more : (r : ℕ) (b : Bool) → f r ≡ b → bitsTo (r + 1) f ≡ cond b (2 ^ r) 0 + bitsTo r f
   bits-more r b e = sumTo-more r (λ q. cond (f q) (2 ^ q) 0) ∙ ap (λ (x : Bool). cond x (2 ^ r) 0 + bitsTo r f) e
+
+-- sets by tests that agree, and the set of none
+pub bits-cong : (n : ℕ) (f g : ℕ → Bool) → ((i : ℕ) → i < n → f i ≡ g i) → bitsTo n f ≡ bitsTo n g
+bits-cong n f g h = sumTo-cong n _ _ (λ i l. ap (λ (b : Bool). cond b (2 ^ i) 0) (h i l))
+
+pub bits-none : (n : ℕ) (f : ℕ → Bool) → ((i : ℕ) → i < n → f i ≡ false) → bitsTo n f ≡ 0
+bits-none n f h = bits-cong n f (λ i. false) h ∙ sumTo-zero n
+
+pub count-none : (n : ℕ) (f : ℕ → Bool) → ((i : ℕ) → i < n → f i ≡ false) → countTo n f ≡ 0
+count-none n f h = sumTo-cong n _ _ (λ i l. ap one? (h i l)) ∙ sumTo-zero n

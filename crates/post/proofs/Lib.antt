@@ -21,3 +21,6 @@ pub mod Inserting
 pub mod Remaking
 pub mod RowsSound
 pub mod RowsReceive
+pub mod Answering
+pub mod Lacking
+pub mod Unique

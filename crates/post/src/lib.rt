@@ -11,7 +11,7 @@ ghost use Prim.Native.Nat.{_≤_, _<_, _+_, _^_, max};
 ghost use lib.Dec.{eqb, ltb, leb, T};
 ghost use lib.ListN.{length};
 ghost use Rattle.laws.specs.Ladder.{_when_, refusal, every};
-ghost use Rattle.frame.specs.Message.{msg, counted, lastCounter, stampOf};
+ghost use Rattle.frame.specs.Message.{msg, known, counted, lastCounter, stampOf};
 ghost use Rattle.frame.specs.Frame.{fieldsOf};
 ghost use Rattle.post.specs.Record.{fresh};
 ghost use Rattle.post.specs.Sound.{inRange, numberRules, slotRules, countRules, sound};
@@ -99,6 +99,15 @@ fn phase_after(phase: u8, order: u64, room: u64) -> u8
         return 3;
     }
     2
+}
+
+fn is_grant(before: u8, after: u8) -> bool
+    ensures { λ r. ⌜ r ≡ (not (eqb before 3) && eqb after 3) ⌝ }
+{
+    if before == 3 {
+        return false;
+    }
+    after == 3
 }
 
 fn order_after(phase: u8, order: u64, found: u64) -> u64
@@ -401,5 +410,148 @@ impl Post {
             return sender;
         }
         self.turn_number(m)
+    }
+
+    fn refused(self, number: u8) -> Answer
+        ensures { λ r. ⌜ r ≡ refused self number ⌝ }
+    {
+        Answer {
+            post: self,
+            number,
+            wrote: false,
+            granted: false,
+        }
+    }
+
+    // Sends an own take or return.
+    fn say(self, kind: u8, phase: u8, buf: &mut [u8]) -> Answer
+        requires { ⌜ T (sound self) × (self .clock < lastCounter) × T (known kind) × (12 ≤ length (now buf)) ⌝ }
+        ensures { λ r. ⌜ Gives (done self (settle (spoken self kind phase)) true) (over self (msg kind (self .own) (self .clock + 1)) (now (buf .entry))) r (now (buf .exit)) ⌝ }
+    {
+        let next = self.spoken(kind, phase).settled();
+        let m = Message {
+            kind,
+            sender: self.own,
+            counter: self.clock + 1,
+        };
+        frame::write(buf, self.feeder, m);
+        let granted = is_grant(self.phase, next.phase);
+        Answer {
+            post: next,
+            number: 0,
+            wrote: true,
+            granted,
+        }
+    }
+
+    // A truck is plugged in.
+    pub fn take(self, buf: &mut [u8]) -> Answer
+        ensures { λ r. ⌜ Gives (took self (now (buf .entry))) (tookBytes self (now (buf .entry))) r (now (buf .exit)) ⌝ }
+    {
+        let number = self.own_number(0, 13, buf.len());
+        if number != 0 {
+            return self.refused(number);
+        }
+        self.say(1, 1, buf)
+    }
+
+    // The truck is full.
+    pub fn give_back(self, buf: &mut [u8]) -> Answer
+        ensures { λ r. ⌜ Gives (gaveBack self (now (buf .entry))) (gaveBackBytes self (now (buf .entry))) r (now (buf .exit)) ⌝ }
+    {
+        let number = self.own_number(3, 14, buf.len());
+        if number != 0 {
+            return self.refused(number);
+        }
+        self.say(2, 0, buf)
+    }
+
+    // Takes in a take or return, and acknowledges it.
+    fn accept(self, m: Message, buf: &mut [u8]) -> Answer
+        requires { ⌜ T (sound self) × (m .sender < self .posts) × (max (self .clock) (m .counter) < lastCounter) × (12 ≤ length (now buf)) ⌝ }
+        ensures { λ r. ⌜ Gives (done self (settle (came self m)) true) (over self (msg 3 (self .own) (ackClock self m)) (now (buf .entry))) r (now (buf .exit)) ⌝ }
+    {
+        let next = self.came(m).settled();
+        let ack = Message {
+            kind: 3,
+            sender: self.own,
+            counter: larger(self.clock, m.counter) + 1,
+        };
+        frame::write(buf, self.feeder, ack);
+        let granted = is_grant(self.phase, next.phase);
+        Answer {
+            post: next,
+            number: 0,
+            wrote: true,
+            granted,
+        }
+    }
+
+    // A frame has arrived.
+    pub fn receive(self, frame: &[u8], buf: &mut [u8]) -> Answer
+        ensures { λ r. ⌜ Gives (received self (now (frame .entry)) (now (buf .entry))) (receivedBytes self (now (frame .entry)) (now (buf .entry))) r (now (buf .exit)) ⌝ }
+    {
+        let number = self.receive_number(frame, buf.len());
+        if number != 0 {
+            return self.refused(number);
+        }
+        let f = frame::split(frame);
+        let m = f.message;
+        if slots::is_counted(m) {
+            return self.accept(m, buf);
+        }
+        let next = self.noted(m).settled();
+        let granted = is_grant(self.phase, next.phase);
+        Answer {
+            post: next,
+            number: 0,
+            wrote: false,
+            granted,
+        }
+    }
+
+    // K + settled returns - settled takes.
+    pub fn value(self) -> Value
+        ensures { λ r. ⌜ r ≡ valued self ⌝ }
+    {
+        if !self.sound() {
+            return Value {
+                number: 1,
+                value: 0,
+            };
+        }
+        Value {
+            number: 0,
+            value: (self.places as u64 + self.returns) as i64 - self.takes as i64,
+        }
+    }
+
+    // The other posts whose last stamp is below the own unsettled take.
+    pub fn missing(self) -> Missing
+        ensures { λ r. ⌜ r ≡ missed self ⌝ }
+    {
+        if !self.sound() {
+            return Missing {
+                number: 1,
+                set: 0,
+                count: 0,
+            };
+        }
+        if self.phase != 1 {
+            return Missing {
+                number: 0,
+                set: 0,
+                count: 0,
+            };
+        }
+        let last = self.last;
+        let slots = self.slots;
+        let t = slots::own_stamp(slots, self.waits as usize, self.own);
+        let set = lasts::late(last, self.posts as usize, self.own as usize, t);
+        Missing {
+            number: 0,
+            set,
+            count: u16::count_ones(set),
+        }
     }
 }

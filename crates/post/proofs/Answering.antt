@@ -1,0 +1,110 @@
+-- What the calls give back, from what their parts give. Assumes nothing.
+use mathlib.Core.Path.{_≡_, refl, ap, _∙_, sym, subst}
+use mathlib.Core.Bool.{Bool, true, false, not, cond, _&&_}
+use mathlib.Core.List.{List, [], _∷_, _++_}
+use Prim.Native.Nat.{ℕ, _+_, _≤_, _<_, _^_, max}
+use native.Mathlib.Omega.{arith}
+use borrow.Author.Tests.{eq-eqb, ne-eqb, le-ltb}
+use lib.Dec.{T, eqb, ltb}
+use lib.Ieee.Bits.{is-true}
+use lib.ListN.{length, drop}
+use Rattle.laws.specs.Ladder.{Row, refusal}
+use Rattle.laws.specs.Lists.{put}
+use Rattle.laws.proofs.Ladders.{on, off, not-off, unrefused}
+use Rattle.laws.proofs.CountLaws.{length-put}
+use Rattle.frame.specs.declared.Message.{Message}
+use Rattle.frame.specs.Message.{msg, known, counted, stamp}
+use Rattle.frame.specs.Frame.{frame, messageRows, writeRows, writeNo, bytesAfter, Written}
+use Rattle.post.specs.declared.Post.{Post}
+use Rattle.post.specs.declared.Answer.{Answer}
+use Rattle.post.specs.Record.{waitingOf, remade}
+use Rattle.post.specs.Settle.{settle}
+use Rattle.post.specs.Calls.{spoken, came, noted, ackClock, done, refused, over, Gives, sent, sentBytes, heardFrom, heardBytes}
+use Rattle.post.specs.Inside.{Countable}
+use Rattle.post.proofs.SoundFacts.{sound-has}
+use Rattle.post.proofs.Shape.{Kept, length-waiting}
+use Rattle.post.proofs.Values.{counts-small}
+use Rattle.post.proofs.Remaking.{has-room}
+
+-- ---- the counts stay small
+
+module _ (p : Post) (k : Kept p) where
+  remade-countable : (clock : ℕ) (last : List ℕ) (ms : List Message) (phase order : ℕ) → length ms ≤ 62 → Countable (remade p clock last ms phase order)
+  unfolding remade
+  remade-countable clock last ms phase order h =
+      let s = sound-has p (k .sound) in
+      let c = counts-small p s (k .width) in
+      record { posts = s .posts-high; waits = h; takes = omega arith; returns = omega arith }
+
+  length-with : (m : Message) → length (put stamp m (waitingOf p)) ≤ 62
+  length-with m =
+      let a = length-put stamp m (waitingOf p) in
+      let b = length-waiting p (sound-has p (k .sound)) (k .shape) in
+      let h = has-room p k in
+      omega arith
+
+  pub spoken-countable : (kind phase : ℕ) → Countable (spoken p kind phase)
+  unfolding spoken
+  spoken-countable kind phase = remade-countable _ _ _ _ _ (length-with _)
+
+  pub came-countable : (m : Message) → Countable (came p m)
+  unfolding came
+  came-countable m = remade-countable _ _ _ _ _ (length-with m)
+
+  pub noted-countable : (m : Message) → Countable (noted p m)
+  unfolding noted
+  noted-countable m =
+      let s = sound-has p (k .sound) in
+      remade-countable _ _ _ _ _ (let b = length-waiting p s (k .shape) in let w = s .waits in omega arith)
+
+-- ---- the frame
+
+-- a good message is written where there is room
+pub is-written : (old new : List ℕ) (f : ℕ) (m : Message) (n : ℕ) → Written old new f m n → T (known (m .kind)) → m .sender ≤ 15 → 1 ≤ m .counter → 12 ≤ length old
+    → new ≡ frame f m ++ drop 12 old
+unfolding bytesAfter writeRows messageRows
+is-written old new f m n w kind sender counter room =
+    w .leaves
+    ∙ sym (on _ _ _ (eq-eqb (writeNo old m) 0
+    (unrefused (writeRows (length old) m)
+    (le-ltb (length old) 12 room, (not-off (known (m .kind)) (is-true (known (m .kind)) kind), (le-ltb 15 (m .sender) sender, (ne-eqb (m .counter) 0 (λ z. omega arith), tt)))))) refl)
+
+-- ---- the answers
+
+module _ (p : Post) (rows : List Row) {n : ℕ} (e : n ≡ refusal rows) where
+  module _ (kind phase : ℕ) (lent : List ℕ) where
+    pub not-sent : (n ≡ 0 → ⊥) → {r : Answer} → r ≡ refused p n → Gives (sent p kind phase rows) (sentBytes p kind rows lent) r lent
+    unfolding sent sentBytes
+    not-sent z h =
+        let f = ne-eqb (refusal rows) 0 (λ q. z (e ∙ q)) in
+        record { gives = off _ _ _ f (h ∙ ap (refused p) e); leaves = off _ _ _ f refl }
+
+    pub is-sent : n ≡ 0 → {r : Answer} {new : List ℕ}
+        → Gives (done p (settle (spoken p kind phase)) true) (over p (msg kind (p .own) (p .clock + 1)) lent) r new → Gives (sent p kind phase rows) (sentBytes p kind rows lent) r new
+    unfolding sent sentBytes
+    is-sent z g = let f = eq-eqb (refusal rows) 0 (sym e ∙ z) in record { gives = on _ _ _ f (g .gives); leaves = on _ _ _ f (g .leaves) }
+
+  module _ (m : Message) (lent : List ℕ) where
+    pub not-heard : (n ≡ 0 → ⊥) → {r : Answer} → r ≡ refused p n → Gives (heardFrom p m rows) (heardBytes p m rows lent) r lent
+    unfolding heardFrom heardBytes
+    not-heard z h =
+        let f = ne-eqb (refusal rows) 0 (λ q. z (e ∙ q)) in
+        record { gives = off _ _ _ f (h ∙ ap (refused p) e); leaves = off _ _ _ f refl }
+
+    pub is-heard : n ≡ 0 → counted m ≡ true → {r : Answer} {new : List ℕ}
+        → Gives (done p (settle (came p m)) true) (over p (msg 3 (p .own) (ackClock p m)) lent) r new → Gives (heardFrom p m rows) (heardBytes p m rows lent) r new
+    unfolding heardFrom heardBytes
+    is-heard z y g =
+        let f = eq-eqb (refusal rows) 0 (sym e ∙ z) in
+        record { gives = on _ _ _ f (on _ _ _ y (g .gives)); leaves = on _ _ _ f (on _ _ _ y (g .leaves)) }
+
+    pub is-noted : n ≡ 0 → counted m ≡ false → {r : Answer} → r ≡ done p (settle (noted p m)) false → Gives (heardFrom p m rows) (heardBytes p m rows lent) r lent
+    unfolding heardFrom heardBytes
+    is-noted z y h =
+        let f = eq-eqb (refusal rows) 0 (sym e ∙ z) in
+        record { gives = on _ _ _ f (off _ _ _ y h); leaves = on _ _ _ f (off _ _ _ y refl) }
+
+-- done, from the next record and the grant mark
+pub is-done : (p q next : Post) (wrote g : Bool) → next ≡ q → g ≡ (not (eqb (p .phase) 3) && eqb (next .phase) 3)
+    → record { post = next; number = 0; wrote = wrote; granted = g } ≡ done p q wrote
+is-done p q next wrote g e h = (λ i. record { post = next; number = 0; wrote = wrote; granted = h i }) ∙ ap (λ (x : Post). done p x wrote) e

@@ -1,0 +1,45 @@
+use borrow.Author.Needs.{needs}
+use mathlib.Core.Path.{_∙_, sym}
+use denote.Ref.{now}
+use lib.ListN.{length}
+use borrow.Author.Tests.{ltb-false}
+use Rattle.laws.proofs.Ladders.{quiet}
+use Rattle.post.specs.Calls.{returnRows}
+use Rattle.post.proofs.Accepted.{return-speaks}
+use Rattle.post.proofs.Answering.{not-sent, is-sent}
+use Rattle.post.proofs.Post.give_back.Statement.{statement}
+use Rattle.post.proofs.Post.give_back.Tie as tie
+
+own-number-requires : tie.Need-own-number-requires
+own-number-requires c κs = search needs
+
+refused-requires : tie.Need-refused-requires
+refused-requires c κs = search needs
+
+returns : tie.Need-returns
+unfolding returnRows
+returns c =
+    let a = c .before .before .before .before .args in
+    not-sent (a .self) (returnRows (a .self) (length (now (a .buf)))) (c .before .before .own-number .ensures) 2 0 _ (c .before .if1 .taken) (c .refused .ensures)
+
+say-requires : tie.Need-say-requires
+unfolding returnRows
+say-requires c κs =
+    let a = c .before .before .before .before .args in
+    let z = sym (c .before .before .own-number .ensures) ∙ c .before .if1 .left in
+    let s = return-speaks (a .self) (length (now (a .buf))) z in
+    (s .sound, s .clock, tt, ltb-false _ 12 (quiet (returnRows (a .self) (length (now (a .buf)))) tt z .1 .0))
+
+same-length : tie.Need-same-length
+same-length c = search needs
+
+returns-2 : tie.Need-returns-2
+unfolding returnRows
+returns-2 c =
+    let a = c .before .before .before .before .before .before .before .args in
+    is-sent (a .self) (returnRows (a .self) (length (now (a .buf)))) (c .before .before .before .before .before .own-number .ensures) 2 0 _ (c .before .before .before .before .if1 .left) (c .before .before .say .ensures)
+
+pub give-back-spec : {M : Type 1} → statement M
+give-back-spec =
+    tie.close
+    (tie.spec own-number-requires refused-requires returns say-requires same-length returns-2)

@@ -1,0 +1,126 @@
+use borrow.Author.Needs.{needs}
+use Prim.Native.Nat.{ℕ, _≤_, _<_, max}
+use mathlib.Core.Path.{_≡_, _∙_, ap, subst, sym}
+use mathlib.Core.Bool.{true, false}
+use mathlib.Core.List.{List}
+use native.Mathlib.Omega.{arith}
+use denote.Floats.{passes}
+use denote.Ref.{now}
+use lib.Dec.{T}
+use lib.ListN.{length}
+use borrow.Author.Tests.{ltb-false}
+use Rattle.laws.specs.Ladder.{refusal}
+use Rattle.laws.proofs.Ladders.{quiet}
+use Rattle.frame.specs.declared.Message.{Message}
+use Rattle.frame.specs.declared.Fields.{Fields}
+use Rattle.frame.specs.Message.{counted}
+use Rattle.frame.specs.Frame.{fieldsOf, formRows}
+use Rattle.post.specs.declared.Post.{Post}
+use Rattle.post.specs.Sound.{sound}
+use Rattle.post.specs.Settle.{settle}
+use Rattle.post.specs.Calls.{senderRows, turnRows, receiveRows, noted}
+use Rattle.post.specs.Inside.{Countable}
+use Rattle.post.proofs.Shape.{Kept}
+use Rattle.post.proofs.Accepted.{Accepted, accepted}
+use Rattle.post.proofs.Remaking.{length-mapped}
+use Rattle.post.proofs.Answering.{noted-countable, not-heard, is-heard, is-noted, is-done}
+use Rattle.post.proofs.Post.receive.Statement.{statement}
+use Rattle.post.proofs.Post.receive.Tie as tie
+
+kept : (c : tie.Start) → T (sound (c .args .self)) → Kept (c .args .self)
+kept c t = record { sound = t; shape = record { last = search needs; slots = search (length-mapped, needs) }; width = search needs }
+
+-- the message that the code split off is the frame's
+same : (s : List ℕ) (f : Fields) → f ≡ fieldsOf s → f .message ≡ fieldsOf s .message
+same s f e = λ i. e i .message
+
+room : (p : Post) (s : List ℕ) (n : ℕ) → refusal (receiveRows p s n) ≡ 0 → 12 ≤ n
+unfolding receiveRows formRows senderRows turnRows
+room p s n e = ltb-false n 12 (quiet (receiveRows p s n) tt e .1 .0)
+
+receive-number-requires : tie.Need-receive-number-requires
+receive-number-requires c κs = search needs
+
+refused-requires : tie.Need-refused-requires
+refused-requires c κs = search needs
+
+returns : tie.Need-returns
+returns c =
+    let a = c .before .before .before .before .before .args in
+    not-heard (a .self) (receiveRows (a .self) (now (a .frame)) (length (now (a .buf)))) (c .before .before .receive-number .ensures) (fieldsOf (now (a .frame)) .message) _ (c .before .if1 .taken) (c .refused .ensures)
+
+split-requires : tie.Need-split-requires
+split-requires c κs = search needs
+
+is-counted-requires : tie.Need-is-counted-requires
+is-counted-requires c κs = search needs
+
+accept-requires : tie.Need-accept-requires
+accept-requires c κs =
+    let a = c .before .before .before .before .before .before .before .before .before .args in
+    let s = now (a .frame) in
+    let z = sym (c .before .before .before .before .before .before .receive-number .ensures) ∙ c .before .before .before .before .before .if1 .left in
+    let g = accepted (a .self) s (length (now (a .buf))) z in
+    let e = same s _ (c .before .before .before .before .split .ensures) in
+    let t = passes _ (ap counted (sym e) ∙ sym (c .before .before .is-counted .ensures) ∙ c .before .if2 .taken) in
+    let k = g .clock t in
+    let m = g .counter t in (
+      g .sound,
+      rw e (g .sender),
+      rw e (omega arith),
+      room (a .self) s _ z,
+    )
+
+same-length : tie.Need-same-length
+same-length c = search needs
+
+returns-2 : tie.Need-returns-2
+returns-2 c =
+    let a = c .before .before .before .before .before .before .before .before .before .before .before .before .args in
+    let s = now (a .frame) in
+    let e = same s _ (c .before .before .before .before .before .before .before .split .ensures) in
+    is-heard (a .self) (receiveRows (a .self) s (length (now (a .buf)))) (c .before .before .before .before .before .before .before .before .before .receive-number .ensures) (fieldsOf s .message) _ (c .before .before .before .before .before .before .before .before .if1 .left)
+    (ap counted (sym e) ∙ sym (c .before .before .before .before .before .is-counted .ensures) ∙ c .before .before .before .before .if2 .taken)
+    (rw e at (c .before .before .accept .ensures))
+
+noted-requires : tie.Need-noted-requires
+noted-requires c κs =
+    let a = c .before .before .before .before .before .before .before .before .args in
+    let s = now (a .frame) in
+    let g = accepted (a .self) s (length (now (a .buf))) (sym (c .before .before .before .before .before .receive-number .ensures) ∙ c .before .before .before .before .if1 .left) in
+    (g .sound, rw (same s _ (c .before .before .before .split .ensures)) (g .sender))
+
+settled-requires : tie.Need-settled-requires
+settled-requires c κs =
+    let a = c .before .before .before .before .before .before .before .before .before .args in
+    let g = accepted (a .self) (now (a .frame)) (length (now (a .buf))) (sym (c .before .before .before .before .before .before .receive-number .ensures) ∙ c .before .before .before .before .before .if1 .left) in
+    subst Countable (sym (c .noted .ensures)) (noted-countable (a .self) (kept (c .before .before .before .before .before .before .before .before .before) (g .sound)) _)
+
+is-grant-requires : tie.Need-is-grant-requires
+is-grant-requires c κs = search needs
+
+returns-3 : tie.Need-returns-3
+returns-3 c =
+    let a = c .before .before .before .before .before .before .before .before .before .before .before .args in
+    let s = now (a .frame) in
+    let e = same s _ (c .before .before .before .before .before .before .split .ensures) in
+    is-noted (a .self) (receiveRows (a .self) s (length (now (a .buf)))) (c .before .before .before .before .before .before .before .before .receive-number .ensures) (fieldsOf s .message) _ (c .before .before .before .before .before .before .before .if1 .left)
+    (ap counted (sym e) ∙ sym (c .before .before .before .before .is-counted .ensures) ∙ c .before .before .before .if2 .left)
+    (is-done (a .self) _ _ _ _ (c .before .settled .ensures ∙ ap settle (c .before .before .noted .ensures ∙ ap (noted (a .self)) e)) (c .is-grant .ensures))
+
+pub receive-spec : {M : Type 1} → statement M
+receive-spec =
+    tie.close
+    (tie.spec
+    receive-number-requires
+    refused-requires
+    returns
+    split-requires
+    is-counted-requires
+    accept-requires
+    same-length
+    returns-2
+    noted-requires
+    settled-requires
+    is-grant-requires
+    returns-3)

@@ -1,0 +1,45 @@
+use borrow.Author.Needs.{needs}
+use mathlib.Core.Path.{_∙_, sym}
+use denote.Ref.{now}
+use lib.ListN.{length}
+use borrow.Author.Tests.{ltb-false}
+use Rattle.laws.proofs.Ladders.{quiet}
+use Rattle.post.specs.Calls.{takeRows}
+use Rattle.post.proofs.Accepted.{take-speaks}
+use Rattle.post.proofs.Answering.{not-sent, is-sent}
+use Rattle.post.proofs.Post.take.Statement.{statement}
+use Rattle.post.proofs.Post.take.Tie as tie
+
+own-number-requires : tie.Need-own-number-requires
+own-number-requires c κs = search needs
+
+refused-requires : tie.Need-refused-requires
+refused-requires c κs = search needs
+
+returns : tie.Need-returns
+unfolding takeRows
+returns c =
+    let a = c .before .before .before .before .args in
+    not-sent (a .self) (takeRows (a .self) (length (now (a .buf)))) (c .before .before .own-number .ensures) 1 1 _ (c .before .if1 .taken) (c .refused .ensures)
+
+say-requires : tie.Need-say-requires
+unfolding takeRows
+say-requires c κs =
+    let a = c .before .before .before .before .args in
+    let z = sym (c .before .before .own-number .ensures) ∙ c .before .if1 .left in
+    let s = take-speaks (a .self) (length (now (a .buf))) z in
+    (s .sound, s .clock, tt, ltb-false _ 12 (quiet (takeRows (a .self) (length (now (a .buf)))) tt z .1 .0))
+
+same-length : tie.Need-same-length
+same-length c = search needs
+
+returns-2 : tie.Need-returns-2
+unfolding takeRows
+returns-2 c =
+    let a = c .before .before .before .before .before .before .before .args in
+    is-sent (a .self) (takeRows (a .self) (length (now (a .buf)))) (c .before .before .before .before .before .own-number .ensures) 1 1 _ (c .before .before .before .before .if1 .left) (c .before .before .say .ensures)
+
+pub take-spec : {M : Type 1} → statement M
+take-spec =
+    tie.close
+    (tie.spec own-number-requires refused-requires returns say-requires same-length returns-2)

@@ -1,0 +1,38 @@
+-- For each public function: two results that meet its promise are equal, and so are the lent bytes after them. Assumes nothing.
+use Prim.Native.Nat.{ℕ}
+use mathlib.Core.Path.{_≡_, _∙_, sym}
+use mathlib.Core.Bool.{Bool}
+use mathlib.Core.List.{List}
+use Rattle.post.specs.declared.Post.{Post}
+use Rattle.post.specs.declared.Started.{Started}
+use Rattle.post.specs.declared.Answer.{Answer}
+use Rattle.post.specs.declared.Value.{Value}
+use Rattle.post.specs.declared.Missing.{Missing}
+use Rattle.post.specs.Sound.{sound}
+use Rattle.post.specs.Calls.{Gives, started, took, tookBytes, gaveBack, gaveBackBytes, received, receivedBytes, valued, missed}
+
+gives-unique : {answer : Answer} {bytes : List ℕ} {a b : Answer} {x y : List ℕ} → Gives answer bytes a x → Gives answer bytes b y → (a ≡ b) × (x ≡ y)
+gives-unique p q = (p .gives ∙ sym (q .gives), p .leaves ∙ sym (q .leaves))
+
+pub start-unique : (posts own feeder places : ℕ) (a b : Started) → a ≡ started posts own feeder places → b ≡ started posts own feeder places → a ≡ b
+start-unique posts own feeder places a b p q = p ∙ sym q
+
+pub sound-unique : (p : Post) (a b : Bool) → a ≡ sound p → b ≡ sound p → a ≡ b
+sound-unique p a b e f = e ∙ sym f
+
+pub take-unique : (p : Post) (lent x y : List ℕ) (a b : Answer) → Gives (took p lent) (tookBytes p lent) a x → Gives (took p lent) (tookBytes p lent) b y → (a ≡ b) × (x ≡ y)
+take-unique p lent x y a b = gives-unique
+
+pub give-back-unique : (p : Post) (lent x y : List ℕ) (a b : Answer) → Gives (gaveBack p lent) (gaveBackBytes p lent) a x → Gives (gaveBack p lent) (gaveBackBytes p lent) b y
+    → (a ≡ b) × (x ≡ y)
+give-back-unique p lent x y a b = gives-unique
+
+pub receive-unique : (p : Post) (s lent x y : List ℕ) (a b : Answer) → Gives (received p s lent) (receivedBytes p s lent) a x → Gives (received p s lent) (receivedBytes p s lent) b y
+    → (a ≡ b) × (x ≡ y)
+receive-unique p s lent x y a b = gives-unique
+
+pub value-unique : (p : Post) (a b : Value) → a ≡ valued p → b ≡ valued p → a ≡ b
+value-unique p a b e f = e ∙ sym f
+
+pub missing-unique : (p : Post) (a b : Missing) → a ≡ missed p → b ≡ missed p → a ≡ b
+missing-unique p a b e f = e ∙ sym f
