@@ -1,0 +1,27 @@
+//! The feeder post a second time: every message a post sent or accepted is kept, sorted by stamp,
+//! and whatever is asked is worked out from that list. "01" in the comments is the scope document.
+
+// Messages, frames and posts.
+pub mod frame;
+pub mod message;
+pub mod queue;
+pub mod refusal;
+
+// The bench.
+pub mod bench;
+pub mod feeder;
+pub mod lines;
+
+// The checker of random runs.
+pub mod checker;
+pub mod hearing;
+pub mod one_call;
+pub mod runs;
+pub mod stray;
+pub mod summary;
+pub mod table;
+pub mod watched;
+
+// Random nights, and what is random in all of this.
+pub mod nights;
+pub mod random;
