@@ -1,0 +1,4 @@
+pub mod Image
+pub mod OnRecord
+pub mod Demand2
+pub mod Records
