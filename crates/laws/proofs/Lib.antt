@@ -6,3 +6,5 @@ pub mod ListLaws
 pub mod RisingLaws
 pub mod ScanLaws
 pub mod BitLaws
+pub mod Counting
+pub mod SumLaws

@@ -11,11 +11,12 @@ use lib.ListN.{length}
 use denote.Floats.{passes}
 use borrow.Author.Tests.{leb-false, eqb-false, not-false}
 use Rattle.laws.specs.Ladder.{refusal}
+use Rattle.laws.specs.Lists.{many}
 use Rattle.laws.proofs.Tests.{cond-both}
 use Rattle.laws.proofs.Ladders.{quiet}
-use Rattle.frame.specs.Message.{known, lastCounter}
+use Rattle.frame.specs.Message.{counted, known, lastCounter, by}
 use Rattle.frame.specs.Frame.{fieldsOf, formRows}
-use Rattle.queue.specs.Queue.{Start, Queue, clock, last, phase}
+use Rattle.queue.specs.Queue.{Start, Queue, clock, last, waiting, phase}
 use Rattle.queue.specs.Calls.{Call, take-call, return-call, receive-call, value-call, missing-call, Answer, say, acks, accept}
 use Rattle.queue.specs.Calls.{takeRows, returnRows, fromRows, receiveRows, send, received, onQueue, queueAfter}
 use Rattle.queue.proofs.Good.{New, Good, good-say, good-accept}
@@ -30,6 +31,10 @@ pub data Change (st : Start) (q : Queue) : Call → Queue → Type 0 where
 neither : (a b c : Bool) → T a → a && (b || c) ≡ false → (b ≡ false) × (c ≡ false)
 neither true b c t e = or-eq-false-eq-eq-false-and-eq-false b c .0 e
 neither false b c t e = absurd t
+
+second : (a b : Bool) → T a → a && b ≡ false → b ≡ false
+second true b t e = e
+second false b t e = absurd t
 
 passed : (t : Bool) → not t ≡ false → T t
 passed t e = passes t (not-false t e)
@@ -49,6 +54,7 @@ module _ (st : Start) (q : Queue) where
         room = λ y.
             let c = neither (acks m) (leb lastCounter (clock q)) (leb lastCounter (m .counter)) y (r .1 .1 .1 .1 .0) in
             (leb-false lastCounter (clock q) (c .0), leb-false lastCounter (m .counter) (c .1));
+        few = λ y. leb-false 4 (many (by (m .sender)) (waiting st q)) (second (counted m) _ y (r .1 .1 .1 .1 .1 .0));
       }
 
   pub change : (c : Call) → Change st q c (onQueue st q c .next)
