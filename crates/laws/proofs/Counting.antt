@@ -1,7 +1,7 @@
 -- How many of a list pass a test, with one put in, in a list joined at its end, and up to a member. Assumes nothing.
 use mathlib.Core.Path.{_≡_, refl, sym, ap, _∙_}
 use mathlib.Core.Logic.{inl, inr, ⊎-elim}
-use mathlib.Core.Bool.{Bool, true, _&&_}
+use mathlib.Core.Bool.{Bool, true, not, _&&_}
 use mathlib.Core.List.{List, [], _∷_, _++_}
 use Prim.Native.Nat.{ℕ, _+_, _≤_, _<_, max}
 use native.Mathlib.Omega.{arith}
@@ -11,9 +11,15 @@ use lib.Ieee.Bits.{is-true, is-false}
 use Rattle.laws.specs.Below.{one?}
 use Rattle.laws.specs.Lists.{In, keep, many, Rising, put, upto, top}
 use Rattle.laws.proofs.Tests.{test, cond-both, and-r}
-use Rattle.laws.proofs.BelowLaws.{one-yes}
+use Rattle.laws.proofs.BelowLaws.{one-yes, one-le}
 use Rattle.laws.proofs.ListLaws.{in-cast, in-keep, keep-in, keep-yes, keep-append, keep-keep, keep-none, many-cons, many-le}
 use Rattle.laws.proofs.RisingLaws.{rising-keep, rising-same}
+
+pub one-most : (b : Bool) → one? b ≤ 1
+one-most b = one-le b true (λ t. tt)
+
+pub one-no : (b : Bool) → T (not b) → one? b ≡ 0
+one-no b n = rw (is-false b n)
 
 module _ {A : Type 0} where
   pub keep-all : (f : A → Bool) (l : List A) → ((a : A) → In a l → T (f a)) → keep f l ≡ l

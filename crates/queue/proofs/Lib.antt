@@ -15,3 +15,5 @@ pub mod Phases
 pub mod Waiting
 pub mod Clocks
 pub mod Settling
+pub mod Fitting
+pub mod Totals
