@@ -5,11 +5,12 @@ use mathlib.Core.Bool.{Bool, true, not, _&&_}
 use mathlib.Core.List.{List, [], _∷_, _++_}
 use Prim.Native.Nat.{ℕ, _+_, _≤_, _<_, max}
 use native.Mathlib.Omega.{arith}
-use lib.Dec.{T, leb, ltb, not-T, le→leb}
+use lib.Dec.{T, leb, ltb, not-T, leb→le, le→leb}
 use lib.ListN.{length, length-append}
 use lib.Ieee.Bits.{is-true, is-false}
+use mir.Facts.{yes-and}
 use Rattle.laws.specs.Below.{one?}
-use Rattle.laws.specs.Lists.{In, keep, many, Rising, put, upto, top}
+use Rattle.laws.specs.Lists.{In, keep, many, all, Rising, put, upto, top}
 use Rattle.laws.proofs.Tests.{test, cond-both, and-r}
 use Rattle.laws.proofs.BelowLaws.{one-yes, one-le}
 use Rattle.laws.proofs.ListLaws.{in-cast, in-keep, keep-in, keep-yes, keep-append, keep-keep, keep-none, many-cons, many-le}
@@ -22,6 +23,11 @@ pub one-no : (b : Bool) → T (not b) → one? b ≡ 0
 one-no b n = rw (is-false b n)
 
 module _ {A : Type 0} where
+  pub at-all : (f : A → Bool) (l : List A) → ((a : A) → In a l → T (f a)) → T (all f l)
+  unfolding all
+  at-all f [] h = tt
+  at-all f (x ∷ xs) h = yes-and (f x) (all f xs) (h x (inl refl)) (at-all f xs (λ a i. h a (inr i)))
+
   pub keep-all : (f : A → Bool) (l : List A) → ((a : A) → In a l → T (f a)) → keep f l ≡ l
   unfolding keep
   keep-all f [] h = refl
@@ -65,6 +71,14 @@ module _ {A : Type 0} (key : A → ℕ) where
 
   -- ---- how many are at or below one
 
+  pub upto-cons : (x : A) (xs : List A) (a : A) → upto key (x ∷ xs) a ≡ one? (leb (key x) (key a)) + upto key xs a
+  unfolding upto
+  upto-cons x xs a = many-cons (λ y. leb (key y) (key a)) x xs
+
+  pub upto-none : (l : List A) (a : A) → ((b : A) → In b l → key a < key b) → upto key l a ≡ 0
+  unfolding upto
+  upto-none l a h = many-none (λ y. leb (key y) (key a)) l (λ b i y. let p = leb→le (key b) (key a) y in let q = h b i in omega arith)
+
   pub upto-after : (s t : List A) (a : A) → ((b : A) → In b s → key b ≤ key a) → upto key (s ++ t) a ≡ length s + upto key t a
   unfolding upto
   upto-after s t a h =
@@ -72,12 +86,11 @@ module _ {A : Type 0} (key : A → ℕ) where
       many-append f s t ∙ ap (λ (n : ℕ). n + many f t) (many-all f s (λ b i. le→leb (key b) (key a) (h b i)))
 
   pub upto-some : (l : List A) (a : A) → In a l → 0 < upto key l a
-  unfolding upto
   upto-some (x ∷ xs) a (inl e) =
-      let b = many-cons (λ y. leb (key y) (key a)) x xs in
+      let b = upto-cons x xs a in
       let c = one-yes (leb (key x) (key a)) (le→leb (key x) (key a) (let k = ap key e in omega arith)) in
       omega arith
-  upto-some (x ∷ xs) a (inr i) = let b = many-cons (λ y. leb (key y) (key a)) x xs in let h = upto-some xs a i in omega arith
+  upto-some (x ∷ xs) a (inr i) = let b = upto-cons x xs a in let h = upto-some xs a i in omega arith
   upto-some [] a i = absurd i
 
   -- ---- the greatest

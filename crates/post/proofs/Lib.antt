@@ -1,2 +1,4 @@
 pub mod SoundFacts
 pub mod Looking
+pub mod Cut
+pub mod OwnTakes
