@@ -2,3 +2,4 @@ pub mod SoundFacts
 pub mod Looking
 pub mod Cut
 pub mod OwnTakes
+pub mod SoundMade
