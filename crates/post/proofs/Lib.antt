@@ -3,3 +3,4 @@ pub mod Looking
 pub mod Cut
 pub mod OwnTakes
 pub mod SoundMade
+pub mod Ranges
