@@ -1,3 +1,5 @@
 pub mod Listed
 pub mod ImageParts
 pub mod ImageSound
+pub mod Counted
+pub mod Steps
