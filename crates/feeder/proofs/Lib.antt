@@ -3,3 +3,4 @@ pub mod ImageParts
 pub mod ImageSound
 pub mod Counted
 pub mod Steps
+pub mod Answers
