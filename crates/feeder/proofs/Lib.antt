@@ -4,3 +4,6 @@ pub mod ImageSound
 pub mod Counted
 pub mod Steps
 pub mod Answers
+pub mod Inquiries
+pub mod Starts
+pub mod Demand2
