@@ -7,3 +7,4 @@ pub mod Answers
 pub mod Inquiries
 pub mod Starts
 pub mod Demand2
+pub mod NightsHold

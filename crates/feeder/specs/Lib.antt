@@ -2,3 +2,4 @@ pub mod Image
 pub mod OnRecord
 pub mod Demand2
 pub mod Records
+pub mod Nights
