@@ -8,3 +8,4 @@ pub mod Inquiries
 pub mod Starts
 pub mod Demand2
 pub mod NightsHold
+pub mod Tells

@@ -17,3 +17,4 @@ pub mod Clocks
 pub mod Settling
 pub mod Fitting
 pub mod Totals
+pub mod Grants
