@@ -69,6 +69,6 @@ module _ (st : Start) (q : Queue) (k : Fitting st q) (s : T (sound (image st q))
   unfolding onRecord onQueue post.missed
   missing-same =
       let e : post.missed (image st q) ≡ record { number = 0; set = bitsTo (st .posts) (lacks st q); count = countTo (st .posts) (lacks st q) } =
-          rw (is-true (sound (image st q)) s, set-same, count-same)
+      rw (is-true (sound (image st q)) s, set-same, count-same)
       in
       record { next = refl; reply = ap (λ (m : Missing). lacking (m .number) (m .set) (m .count)) e }

@@ -9,3 +9,5 @@ pub mod Starts
 pub mod Demand2
 pub mod NightsHold
 pub mod Tells
+pub mod Boards
+pub mod RecordsAndBytes

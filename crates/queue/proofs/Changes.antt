@@ -74,12 +74,12 @@ module _ (st : Start) (q : Queue) where
   unfolding onQueue send received
   change (take-call lent) =
       let rows = takeRows st q (length lent) in
-      cond-both {A = Answer Queue} (λ a. Change st q (take-call lent) (a .next)) (eqb (refusal rows) 0) _ _ 
+      cond-both {A = Answer Queue} (λ a. Change st q (take-call lent) (a .next)) (eqb (refusal rows) 0) _ _
       (λ y. let h = take-passed (length lent) (eqb→eq (refusal rows) 0 y) in took (h .0) (h .1))
       (λ n. unchanged)
   change (return-call lent) =
       let rows = returnRows st q (length lent) in
-      cond-both {A = Answer Queue} (λ a. Change st q (return-call lent) (a .next)) (eqb (refusal rows) 0) _ _ 
+      cond-both {A = Answer Queue} (λ a. Change st q (return-call lent) (a .next)) (eqb (refusal rows) 0) _ _
       (λ y. let h = return-passed (length lent) (eqb→eq (refusal rows) 0 y) in gave-back (h .0) (h .1))
       (λ n. unchanged)
   change (receive-call s lent) =

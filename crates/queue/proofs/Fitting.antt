@@ -82,9 +82,9 @@ module _ (st : Start) (q : Queue) (m : Message) (k : Fitting st q) (w : New st q
   came f n old new =
       let a = many-after st q (accept st q m) (arrived st q m) (between-accept st q (k .kept .good .sorted) m w) f in
       let b : many f (arrived st q m) ≤ n =
-          cond-both (λ v. many f v ≤ n) (counted m) (put stamp m (waiting st q)) (waiting st q)
-          (λ c. let p = many-put stamp f m (waiting st q) in let h = new c in omega arith)
-          (λ x. old)
+      cond-both (λ v. many f v ≤ n) (counted m) (put stamp m (waiting st q)) (waiting st q)
+      (λ c. let p = many-put stamp f m (waiting st q) in let h = new c in omega arith)
+      (λ x. old)
       in
       omega arith
 

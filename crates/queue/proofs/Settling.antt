@@ -46,20 +46,20 @@ module _ (st : Start) (q q′ : Queue) (v : List Message) (b : Between st q q′
       let a = settled-grows st q q′ (b .later) in
       let up : Rising stamp (settled st q ++ a .0) = subst (Rising stamp) (sym (a .1)) (settled-rising st q′ (b .later .after)) in
       let e : a .0 ≡ keep (heard st q′) v =
-          rising-same stamp (a .0) (keep (heard st q′) v) (rising-right stamp (settled st q) (a .0) up) (rising-keep stamp (heard st q′) v (b .rising))
-          (λ m i.
-          let x = settled-in st q′ m (subst (In m) (a .1) (in-right m (settled st q) (a .0) i)) in
-          ⊎-elim
-          (λ j. absurd (let z = rising-seam stamp (settled st q) (a .0) up m m j i in omega arith))
-          (λ j. in-keep (heard st q′) m v j (x .2))
-          (b .whole m (x .0) (x .1)))
-          (λ m i.
-          let x = keep-in (heard st q′) m v i in
-          let y = b .only m (x .0) in
-          ⊎-elim
-          (λ j. absurd (y .2 j))
-          (λ j. j)
-          (in-append m (settled st q) (a .0) (subst (In m) (sym (a .1)) (in-settled st q′ m (y .0) (y .1) (x .1)))))
+      rising-same stamp (a .0) (keep (heard st q′) v) (rising-right stamp (settled st q) (a .0) up) (rising-keep stamp (heard st q′) v (b .rising))
+      (λ m i.
+      let x = settled-in st q′ m (subst (In m) (a .1) (in-right m (settled st q) (a .0) i)) in
+      ⊎-elim
+      (λ j. absurd (let z = rising-seam stamp (settled st q) (a .0) up m m j i in omega arith))
+      (λ j. in-keep (heard st q′) m v j (x .2))
+      (b .whole m (x .0) (x .1)))
+      (λ m i.
+      let x = keep-in (heard st q′) m v i in
+      let y = b .only m (x .0) in
+      ⊎-elim
+      (λ j. absurd (y .2 j))
+      (λ j. j)
+      (in-append m (settled st q) (a .0) (subst (In m) (sym (a .1)) (in-settled st q′ m (y .0) (y .1) (x .1)))))
       in
       sym (a .1) ∙ ap (λ (t : List Message). settled st q ++ t) e
 

@@ -42,8 +42,8 @@ sent-few : (st : Start) (q : Queue) → Sorted st q → (p : ℕ) → length (ke
 unfolding last
 sent-few st q g p =
     let h = one-sender p 0 (keep (by p) q) (rising-keep stamp (by p) q (g .rising))
-        (λ a i. eqb→eq (a .sender) p (keep-in (by p) a q i .1))
-        (λ a i. g .proper a (keep-in (by p) a q i .0) .counter)
+    (λ a i. eqb→eq (a .sender) p (keep-in (by p) a q i .1))
+    (λ a i. g .proper a (keep-in (by p) a q i .0) .counter)
     in
     omega arith
 
@@ -75,7 +75,7 @@ counted-sum : (st : Start) (q : Queue) → Sorted st q → many counted q ≤ su
 counted-sum st q g =
     let a = parts (λ m. m .sender) (st .posts) counted q (λ m i. g .proper m i .sender) in
     let b = sumTo-le (st .posts) (λ p. many counted (keep (by p) q)) (λ p. last p q)
-        (λ p l. let c = many-length counted (keep (by p) q) in let d = sent-few st q g p in omega arith)
+    (λ p l. let c = many-length counted (keep (by p) q) in let d = sent-few st q g p in omega arith)
     in
     omega arith
 
@@ -146,8 +146,8 @@ module _ (st : Start) (q : Queue) (k : Fitting st q) where
       let a = parts (λ m. m .sender) (st .posts) (λ m. true) w (λ m i. g .proper m (waiting-in st q m i .0) .sender) in
       let e = all w in
       let b = sumTo-fours-but (st .posts) (st .own) (λ p. many (λ m. true) (keep (by p) w)) (g .fit .mine)
-          (let c = all (keep (by (st .own)) w) in let d = own-two in omega arith)
-          (λ r l d. let c = all (keep (by r) w) in let f = k .few r l d in omega arith)
+      (let c = all (keep (by (st .own)) w) in let d = own-two in omega arith)
+      (λ r l d. let c = all (keep (by r) w) in let f = k .few r l d in omega arith)
       in
       let f = g .fit .few in
       omega arith
