@@ -2,7 +2,7 @@
 use mathlib.Core.Path.{_≡_, refl, sym, ap, _∙_, subst}
 use mathlib.Core.Bool.{Bool, true, false, not, cond, _&&_}
 use mathlib.Core.List.{List, _++_}
-use Prim.Native.Nat.{ℕ, _+_, _≤_, max}
+use Prim.Native.Nat.{ℕ, _+_, _≤_}
 use lib.Dec.{T, eqb, eqb→eq}
 use lib.ListN.{length, drop}
 use lib.Ieee.Bits.{is-true}
@@ -10,9 +10,9 @@ use Rattle.laws.specs.Ladder.{Row, refusal}
 use Rattle.laws.specs.Lists.{put}
 use Rattle.frame.specs.declared.Message.{Message}
 use Rattle.frame.specs.Message.{msg, counted, lastCounter, stamp}
-use Rattle.frame.specs.Frame.{frame, fieldsOf, formRows}
-use Rattle.queue.specs.Queue.{Start, Queue, clock, last, waiting, phase}
-use Rattle.queue.specs.Calls.{Call, take-call, return-call, receive-call, told, Answer, refused, saying, say, acks, accept, grantCame}
+use Rattle.frame.specs.Frame.{frame, fieldsOf}
+use Rattle.queue.specs.Queue.{Start, Queue, clock, phase}
+use Rattle.queue.specs.Calls.{take-call, return-call, receive-call, told, Answer, refused, saying, say, acks, accept, grantCame}
 use Rattle.queue.specs.Calls.{takeRows, returnRows, fromRows, receiveRows, send, received, onQueue}
 use Rattle.queue.proofs.Changes.{accepted, take-passed, return-passed, receive-passed}
 use Rattle.queue.proofs.Clocks.{clock-put}

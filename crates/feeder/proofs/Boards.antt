@@ -9,16 +9,16 @@ use lib.Dec.{T, ltb, eqb, ltb→lt, eqb→eq}
 use lib.ListN.{length, drop}
 use Rattle.laws.specs.Below.{one?}
 use Rattle.laws.specs.Lists.{In, keep}
-use Rattle.laws.proofs.Tests.{test, and-l, and-r, neqb→ne}
+use Rattle.laws.proofs.Tests.{and-l, and-r, neqb→ne}
 use Rattle.laws.proofs.ListLaws.{in-right, keep-in, begins-drop}
 use Rattle.frame.specs.declared.Message.{Message}
 use Rattle.frame.specs.declared.Fields.{Fields}
-use Rattle.frame.specs.Message.{lastCounter, by}
-use Rattle.frame.specs.Frame.{frame, fieldsOf}
+use Rattle.frame.specs.Message.{by}
+use Rattle.frame.specs.Frame.{frame}
 use Rattle.frame.proofs.FrameFields.{frame-fields}
 use Rattle.queue.specs.Queue.{Queue, settled, grants}
-use Rattle.queue.specs.Calls.{Call, take-call, return-call, receive-call, Reply, onQueue}
-use Rattle.queue.specs.Feeder.{Line, start, Feeder, fresh, sent, had, pending, Act, takeAt, returnAt, deliver, none, at-post, buffer, offered, made, with-queue, after, run}
+use Rattle.queue.specs.Calls.{Call, take-call, return-call, receive-call, onQueue}
+use Rattle.queue.specs.Feeder.{Line, start, Feeder, fresh, sent, had, pending, Act, takeAt, returnAt, deliver, none, at-post, buffer, offered, made, after, run}
 use Rattle.queue.specs.Demand3.{marked}
 use Rattle.queue.proofs.Changes.{change}
 use Rattle.queue.proofs.Grants.{grants-after}

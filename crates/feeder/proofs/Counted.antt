@@ -8,11 +8,11 @@ use lib.Dec.{T, leb, eqb, T-not, not-T, leb→le, le→leb, eqb→eq}
 use lib.ListN.{length, drop}
 use lib.Ieee.Bits.{is-true, is-false}
 use Rattle.laws.specs.Lists.{In, keep, many}
-use Rattle.laws.proofs.Tests.{test, same-test, and-r}
+use Rattle.laws.proofs.Tests.{test, same-test}
 use Rattle.laws.proofs.ListLaws.{in-keep, keep-in, keep-cong}
 use Rattle.laws.proofs.RisingLaws.{rising-keep}
 use Rattle.frame.specs.declared.Message.{Message}
-use Rattle.frame.specs.Message.{isTake, isReturn, lastCounter, stampOf, stamp, by}
+use Rattle.frame.specs.Message.{isTake, isReturn, lastCounter, stampOf, stamp}
 use Rattle.queue.specs.Queue.{Start, Queue, clock, last, lastStamp, heard, settled, waiting, number, room, latest, phase, order}
 use Rattle.queue.proofs.Good.{Sorted}
 use Rattle.queue.proofs.Grow.{heard-grows, number-stays, room-grows}

@@ -1,15 +1,14 @@
 -- The record of a queue that calls made is sound. Assumes nothing.
 use mathlib.Core.Path.{_≡_, refl, sym, ap, _∙_, subst}
-use mathlib.Core.Bool.{Bool, true, false, not, cond, _&&_}
+use mathlib.Core.Bool.{Bool, true, false, cond, _&&_}
 use mathlib.Core.List.{List, []}
 use Prim.Native.Nat.{ℕ, _+_, _-_, _≤_, _<_}
 use native.Mathlib.Omega.{arith}
-use lib.Dec.{T, leb, ltb, eqb, T-not, le→leb, lt→ltb, nleb→lt, eqb→eq, leb→le}
+use lib.Dec.{T, leb, ltb, T-not, le→leb, lt→ltb, nleb→lt, eqb→eq, leb→le}
 use lib.ListN.{length, drop, replicate, length-replicate}
 use lib.Seq.{drop-at}
 use lib.Ieee.Bits.{is-true, is-false}
 use mir.Facts.{yes-and}
-use Rattle.laws.specs.Below.{sumTo}
 use Rattle.laws.specs.Lists.{In, many, Rising, upto}
 use Rattle.laws.proofs.Tests.{test}
 use Rattle.laws.proofs.BelowLaws.{sumTo-cong}
@@ -17,7 +16,7 @@ use Rattle.laws.proofs.ListLaws.{keep-none}
 use Rattle.laws.proofs.ScanLaws.{many-length}
 use Rattle.laws.proofs.Counting.{keep-all}
 use Rattle.frame.specs.declared.Message.{Message}
-use Rattle.frame.specs.Message.{blank, isTake, isReturn, counted, stamp, by}
+use Rattle.frame.specs.Message.{blank, isTake, isReturn, stamp, by}
 use Rattle.queue.specs.Queue.{Start, Queue, clock, last, heard, settled, waiting, takes, number, room, latest, phase, order}
 use Rattle.queue.proofs.Good.{Sorted, le-last}
 use Rattle.queue.proofs.Heard.{at-heard}
@@ -27,10 +26,9 @@ use Rattle.queue.proofs.Waiting.{waiting-in, waiting-rising, latest-waits}
 use Rattle.queue.proofs.Clocks.{last-none, last-le-clock}
 use Rattle.queue.proofs.Fitting.{Fitting}
 use Rattle.queue.proofs.Totals.{total-fits, one-take, no-take, none-own, waits-few}
-use Rattle.post.specs.Record.{lastOf, waitingOf, floor, inSlots}
+use Rattle.post.specs.Record.{lastOf, inSlots}
 use Rattle.post.specs.Sound.{endKind, ownFits, ownFew, orderFits, sound}
 use Rattle.post.proofs.Ranges.{Range}
-use Rattle.post.proofs.SoundFacts.{Fair, Sound}
 use Rattle.post.proofs.SoundMade.{sound-made}
 use Rattle.post.proofs.OwnTakes.{end-of-own}
 use Rattle.feeder.specs.Image.{image}

@@ -1,5 +1,5 @@
 -- Value and missing of the record of a queue are those of the queue. Assumes nothing.
-use mathlib.Core.Path.{_≡_, refl, sym, ap, ap₂, _∙_}
+use mathlib.Core.Path.{_≡_, refl, ap, ap₂, _∙_}
 use mathlib.Core.Bool.{Bool, not, cond, _&&_}
 use Prim.Native.Nat.{ℕ, _^_}
 use lib.Dec.{T, ltb, eqb}
@@ -8,10 +8,9 @@ use mir.Facts.{yes-and}
 use Rattle.laws.specs.Below.{one?, countTo, bitsTo}
 use Rattle.laws.proofs.Tests.{test}
 use Rattle.laws.proofs.BelowLaws.{sumTo-cong}
-use Rattle.frame.specs.declared.Message.{Message}
-use Rattle.frame.specs.Message.{isTake, stampOf, stamp, by}
+use Rattle.frame.specs.Message.{stampOf, stamp, by}
 use Rattle.queue.specs.Queue.{Start, Queue, waiting, room, latest, phase, value, lacks}
-use Rattle.queue.specs.Calls.{Call, value-call, missing-call, Reply, worth, lacking, onQueue}
+use Rattle.queue.specs.Calls.{value-call, missing-call, worth, lacking, onQueue}
 use Rattle.queue.proofs.Good.{Sorted}
 use Rattle.queue.proofs.Granted.{latest-in}
 use Rattle.queue.proofs.Phases.{asked-latest}

@@ -1,8 +1,7 @@
 -- What a start gives: the record of the empty queue, or where its numbers are out of range a record that refuses every call. Assumes nothing.
 use mathlib.Core.Path.{_≡_, refl, sym, ap, subst}
-use mathlib.Core.Bool.{Bool, not, cond}
+use mathlib.Core.Bool.{Bool, cond}
 use mathlib.Core.List.{[]}
-use lib.Dec.{T}
 use lib.Ieee.Bits.{is-true, is-false}
 use Rattle.laws.specs.Lists.{keep, final, top}
 use Rattle.queue.specs.Queue.{Start, clock, last, settled, waiting, latest, phase, order}

@@ -1,9 +1,9 @@
 -- A take, a return and a receive bring the record of a queue to the record of the queue after that call. Assumes nothing.
 use mathlib.Core.Path.{_≡_, refl, sym, ap, ap₂, _∙_, subst}
-use mathlib.Core.Logic.{_⊎_, inl, inr, ⊎-elim}
+use mathlib.Core.Logic.{inl, inr, ⊎-elim}
 use mathlib.Core.Bool.{Bool, true, false, not, cond}
 use mathlib.Core.List.{List}
-use Prim.Native.Nat.{ℕ, suc, _+_, _≤_, _<_, max}
+use Prim.Native.Nat.{ℕ, _+_, _≤_, _<_, max}
 use native.Mathlib.Omega.{arith}
 use native.Mathlib.Numerals.{add-one}
 use lib.Dec.{T, eqb, eqb→eq, eqb-refl}
@@ -16,16 +16,16 @@ use Rattle.frame.specs.declared.Message.{Message}
 use Rattle.frame.specs.Message.{msg, isTake, counted, known, lastCounter, stamp, by}
 use Rattle.queue.specs.Queue.{Start, Queue, clock, last, heard, waiting, latest, phase, order}
 use Rattle.queue.specs.Calls.{saying, say, acks, accept}
-use Rattle.queue.proofs.Good.{Fit, Sorted, New, sorted-say, sorted-new}
+use Rattle.queue.proofs.Good.{Fit, Sorted, New, sorted-say}
 use Rattle.queue.proofs.Granted.{take-cast, latest-in, idle-latest, latest-said, latest-accepted}
-use Rattle.queue.proofs.Phases.{phase-idle, order-idle, phase-asked, order-asked, phase-numbered, order-numbered}
+use Rattle.queue.proofs.Phases.{phase-idle, order-idle, phase-asked, phase-numbered, order-numbered}
 use Rattle.queue.proofs.Waiting.{waits-latest, no-take-waits, latest-waits}
 use Rattle.queue.proofs.Clocks.{clock-put, clock-say, last-put-other, last-new, last-said, last-said-other}
 use Rattle.queue.proofs.Settling.{between-say, arrived, between-accept}
 use Rattle.queue.proofs.Fitting.{Fitting}
 use Rattle.post.specs.Record.{remade}
 use Rattle.post.specs.Settle.{settle}
-use Rattle.post.specs.Calls.{spoken, ackClock, came, noted}
+use Rattle.post.specs.Calls.{spoken, came, noted}
 use Rattle.post.proofs.OwnTakes.{Only}
 use Rattle.feeder.specs.Image.{listFrom, image}
 use Rattle.feeder.proofs.Listed.{set-listFrom}

@@ -14,7 +14,7 @@ use Rattle.laws.specs.Lists.{keep, put}
 use Rattle.laws.proofs.Tests.{test, cond-both, neqb→ne}
 use Rattle.laws.proofs.RisingLaws.{keep-put-no}
 use Rattle.frame.specs.declared.Message.{Message}
-use Rattle.frame.specs.Message.{known, stamp, by}
+use Rattle.frame.specs.Message.{stamp, by}
 use Rattle.frame.specs.Frame.{frame, fieldsOf}
 use Rattle.queue.specs.Queue.{Start, Queue}
 use Rattle.queue.specs.Calls.{Call, take-call, return-call, receive-call, value-call, missing-call, Answer, told, refused, saying, say, acks, accept, over}

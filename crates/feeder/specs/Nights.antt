@@ -4,7 +4,7 @@ use mathlib.Core.Path.{_≡_}
 use mathlib.Core.Bool.{true, false}
 use mathlib.Core.List.{List, [], _∷_, _++_, map}
 use Prim.Native.Nat.{ℕ, _^_}
-use lib.IntN.{ℤ, pos, negsuc}
+use lib.IntN.{pos, negsuc}
 use Rattle.laws.specs.Lists.{many}
 use Rattle.frame.specs.declared.Message.{Message}
 use Rattle.frame.specs.Message.{msg, isTake, isReturn, stampOf}

@@ -1,5 +1,4 @@
 -- What start numbers in range are. Assumes nothing.
-use mathlib.Core.List.{[], _∷_}
 use Prim.Native.Nat.{ℕ, _≤_, _<_}
 use lib.Dec.{T, leb, ltb, leb→le, ltb→lt}
 use Rattle.laws.proofs.Tests.{and-l, and-r}

@@ -1,10 +1,9 @@
 -- A record that has every rule's fact is sound. Assumes nothing.
-use mathlib.Core.Path.{_≡_, refl, sym, subst}
+use mathlib.Core.Path.{refl, sym, subst}
 use mathlib.Core.Logic.{inl}
-use mathlib.Core.Bool.{Bool, not, _&&_, _||_}
+use mathlib.Core.Bool.{Bool, not}
 use mathlib.Core.List.{List, [], _∷_}
-use Prim.Native.Nat.{ℕ, zero, suc, _+_, _≤_, _<_}
-use native.Mathlib.Omega.{arith}
+use Prim.Native.Nat.{ℕ, zero, suc, _+_, _<_}
 use lib.Dec.{T, leb, ltb, eqb, le→leb, lt→ltb, nltb→le, eqb→eq}
 use lib.ListN.{length, drop, replicate}
 use mir.Facts.{yes-and}
@@ -18,7 +17,7 @@ use Rattle.frame.specs.declared.Message.{Message}
 use Rattle.frame.specs.Message.{blank, counted, stamp, by}
 use Rattle.post.specs.declared.Post.{Post}
 use Rattle.post.specs.Record.{lastOf, waitingOf, floor}
-use Rattle.post.specs.Sound.{inRange, absentSilent, clockAbove, fair, rises, noneAlone, isBlank, few, ownFew, sumFits, orderFits}
+use Rattle.post.specs.Sound.{inRange, absentSilent, clockAbove, fair, rises, noneAlone, isBlank, few, sumFits}
 use Rattle.post.specs.Sound.{numberRules, slotRules, countRules, sound}
 use Rattle.post.proofs.SoundFacts.{Fair, Sound}
 

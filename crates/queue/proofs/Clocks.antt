@@ -1,10 +1,9 @@
 -- The clock and the last counters after a message is put in, said or accepted. Assumes nothing.
 use mathlib.Core.Path.{_≡_, sym, ap, _∙_}
 use mathlib.Core.Bool.{Bool, true, false, cond}
-use mathlib.Core.List.{List}
 use Prim.Native.Nat.{ℕ, suc, _≤_, max}
 use native.Mathlib.Omega.{arith}
-use lib.Dec.{T, not-T, eqb→eq, eqb-refl}
+use lib.Dec.{not-T, eqb→eq, eqb-refl}
 use Rattle.laws.specs.Lists.{keep, put, top}
 use Rattle.laws.proofs.ListLaws.{keep-in, keep-none}
 use Rattle.laws.proofs.RisingLaws.{keep-put-no, top-mono}

@@ -1,6 +1,6 @@
 -- A queue that calls made fits a short record: few wait of each sender, and the counters fit their four bytes. Assumes nothing.
 use mathlib.Core.Path.{_≡_, sym, ap, subst}
-use mathlib.Core.Bool.{Bool, not, cond, and-false}
+use mathlib.Core.Bool.{Bool, not, and-false}
 use mathlib.Core.List.{List, []}
 use Prim.Native.Nat.{ℕ, suc, _+_, _≤_, _<_, max}
 use native.Mathlib.Omega.{arith}

@@ -1,7 +1,6 @@
 -- The granted takes are one more exactly after a call that gives the grant mark. Assumes nothing.
-use mathlib.Core.Path.{_≡_, ap, _∙_}
-use mathlib.Core.Bool.{Bool}
-use Prim.Native.Nat.{ℕ, _+_}
+use mathlib.Core.Path.{_≡_, ap}
+use Prim.Native.Nat.{_+_}
 use native.Mathlib.Omega.{arith}
 use lib.ListN.{length, length-append}
 use Rattle.laws.specs.Below.{one?}

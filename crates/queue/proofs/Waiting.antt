@@ -2,12 +2,11 @@
 use mathlib.Core.Path.{_≡_}
 use mathlib.Core.Logic.{_⊎_, inl, inr, ⊎-elim}
 use mathlib.Core.Bool.{Bool, not, _&&_}
-use mathlib.Core.List.{List}
-use Prim.Native.Nat.{ℕ, _≤_, _<_}
+use Prim.Native.Nat.{ℕ}
 use native.Mathlib.Omega.{arith}
 use lib.Dec.{T, T-not}
 use mir.Facts.{yes-and}
-use Rattle.laws.specs.Lists.{In, keep, Rising}
+use Rattle.laws.specs.Lists.{In, Rising}
 use Rattle.laws.proofs.Tests.{test, and-l, and-r, or-l}
 use Rattle.laws.proofs.ListLaws.{in-keep, keep-in}
 use Rattle.laws.proofs.RisingLaws.{rising-keep}
