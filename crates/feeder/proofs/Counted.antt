@@ -22,11 +22,11 @@ use Rattle.queue.proofs.Settling.{Between, waits-on, count-after, number-after}
 use Rattle.post.specs.declared.Post.{Post}
 use Rattle.post.specs.Record.{waitingOf, floor, inSlots, remade}
 use Rattle.post.specs.Settle.{upTo, ownNumber, orderAfter, phaseAfter, settle}
-use Rattle.post.proofs.Cut.{least-cong, under, up-to-is, rest-is}
-use Rattle.post.proofs.OwnTakes.{Only, no-number, number-of-own}
+use Rattle.post.proofs.Cut.{under, leftOf, upTo-keep, left-keep}
+use Rattle.post.proofs.OwnTakes.{Only, ownNumber-none, number-of-own}
 use Rattle.feeder.specs.Image.{listFrom, image}
 use Rattle.feeder.proofs.Listed.{listFrom-at}
-use Rattle.feeder.proofs.ImageParts.{floorOf, in-slots, heard-floor}
+use Rattle.feeder.proofs.ImageParts.{floorOf, least-cong, in-slots, heard-floor}
 
 -- what q counted, with the clock and the last counters of a later queue and with v in the slots
 abbrev pub pending : Start → Queue → Queue → List Message → ℕ → ℕ → Post
@@ -72,7 +72,7 @@ module _ (st : Start) (q q′ : Queue) (v : List Message) (b : Between st q q′
       ∙ sym (number-after st q q′ v b own-latest (in-keep isTake own-latest gone (here .here) t))
       ∙ sym (order-numbered st q′ t h))
       (λ n.
-      no-number (st .own) k gone (λ a i y.
+      ownNumber-none (st .own) k gone (λ a i y.
       let z = keep-in (heard st q′) a v i in
       T-not (heard st q′ own-latest) n (subst (λ (m : Message). T (heard st q′ m)) (only .alone a (z .0) y) (z .1)))
       ∙ sym (order-asked st q′ t n)))
@@ -129,12 +129,12 @@ module _ (st : Start) (q q′ : Queue) (v : List Message) (b : Between st q q′
         same-test (leb (stamp m) f) (heard st q′ m) (λ y. k .1 (leb→le (stamp m) f y)) (λ y. le→leb (stamp m) f (k .0 y))
 
     gone-is : counts ≡ gone
-    gone-is = ap₂ upTo floor-is waits-are ∙ up-to-is (floorOf st q′) v (b .rising) ∙ keep-cong (under (floorOf st q′)) (heard st q′) v under-heard
+    gone-is = ap₂ upTo floor-is waits-are ∙ upTo-keep (floorOf st q′) v (b .rising) ∙ keep-cong (under (floorOf st q′)) (heard st q′) v under-heard
 
     left-is : drop (length (counts)) (waitingOf before) ≡ waiting st q′
     left-is =
-        ap₂ (λ (f : ℕ) (l : List Message). drop (length (upTo f l)) l) floor-is waits-are
-        ∙ rest-is (floorOf st q′) v (b .rising)
+        ap₂ leftOf floor-is waits-are
+        ∙ left-keep (floorOf st q′) v (b .rising)
         ∙ keep-cong (λ m. not (under (floorOf st q′) m)) (λ m. not (heard st q′ m)) v (λ m i. ap not (under-heard m i))
         ∙ sym (waits-on st q q′ v b)
 

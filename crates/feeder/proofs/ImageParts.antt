@@ -3,7 +3,7 @@
 use mathlib.Core.Path.{_≡_, refl, sym, ap, _∙_}
 use mathlib.Core.Logic.{_↔_}
 use mathlib.Core.List.{List}
-use Prim.Native.Nat.{ℕ, _-_, _≤_}
+use Prim.Native.Nat.{ℕ, zero, suc, _-_, _≤_, _<_}
 use native.Mathlib.Omega.{arith}
 use lib.Dec.{T, ltb, ltb→lt, nltb→le}
 use lib.ListN.{length, take, replicate, List·getD-eq-default}
@@ -17,13 +17,19 @@ use Rattle.queue.proofs.Good.{Sorted, le-clock}
 use Rattle.queue.proofs.Heard.{heard-at, at-heard}
 use Rattle.queue.proofs.Clocks.{last-none}
 use Rattle.post.specs.Record.{lastOf, waitingOf, leastTo, floor, inSlots}
-use Rattle.post.proofs.Cut.{least-at, at-least, least-cong}
+use Rattle.post.proofs.Cut.{least-le, le-least}
 use Rattle.feeder.specs.Image.{listFrom, image}
 use Rattle.feeder.proofs.Listed.{length-listFrom, listFrom-at}
 
 -- the least last stamp of the other posts
 abbrev pub floorOf : Start → Queue → ℕ
 floorOf st q = leastTo (st .posts) (st .own) (λ r. lastStamp r q)
+
+-- it depends on the last stamps alone
+pub least-cong : (n own : ℕ) (f g : ℕ → ℕ) → ((r : ℕ) → r < n → f r ≡ g r) → leastTo n own f ≡ leastTo n own g
+unfolding leastTo
+least-cong zero own f g h = refl
+least-cong (suc n) own f g h = rw (h n (omega arith), least-cong n own f g (λ r l. h r (omega arith)))
 
 -- messages in slots come out again
 pub in-slots : (ms : List Message) → take (length ms) (inSlots ms) ≡ ms
@@ -57,6 +63,6 @@ module _ (st : Start) (q : Queue) where
         let a = le-clock q m i in
         let b = g .proper m i .sender in
         let c = g .fit .few in (
-          λ h. at-least (st .posts) (st .own) (λ r. lastStamp r q) (stamp m) (omega arith) (heard-at st q m h),
-          λ h. at-heard st q m (least-at (st .posts) (st .own) (λ r. lastStamp r q) (stamp m) h),
+          λ h. le-least (st .own) (λ r. lastStamp r q) (st .posts) (stamp m) (omega arith) (heard-at st q m h),
+          λ h. at-heard st q m (λ r l d. let e = least-le (st .own) (λ x. lastStamp x q) (st .posts) r l d in omega arith),
         )

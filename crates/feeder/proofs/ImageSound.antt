@@ -1,7 +1,7 @@
 -- The record of a queue that calls made is sound. Assumes nothing.
 use mathlib.Core.Path.{_≡_, refl, sym, ap, _∙_, subst}
 use mathlib.Core.Bool.{Bool, true, false, cond, _&&_}
-use mathlib.Core.List.{List, []}
+use mathlib.Core.List.{List}
 use Prim.Native.Nat.{ℕ, _+_, _-_, _≤_, _<_}
 use native.Mathlib.Omega.{arith}
 use lib.Dec.{T, leb, ltb, T-not, le→leb, lt→ltb, nleb→lt, eqb→eq, leb→le}
@@ -12,9 +12,8 @@ use mir.Facts.{yes-and}
 use Rattle.laws.specs.Lists.{In, many, Rising, upto}
 use Rattle.laws.proofs.Tests.{test}
 use Rattle.laws.proofs.BelowLaws.{sumTo-cong}
-use Rattle.laws.proofs.ListLaws.{keep-none}
 use Rattle.laws.proofs.ScanLaws.{many-length}
-use Rattle.laws.proofs.Counting.{keep-all}
+use Rattle.laws.proofs.Passing.{length-none}
 use Rattle.frame.specs.declared.Message.{Message}
 use Rattle.frame.specs.Message.{blank, isTake, isReturn, stamp, by}
 use Rattle.queue.specs.Queue.{Start, Queue, clock, last, heard, settled, waiting, takes, number, room, latest, phase, order}
@@ -22,14 +21,14 @@ use Rattle.queue.proofs.Good.{Sorted, le-last}
 use Rattle.queue.proofs.Heard.{at-heard}
 use Rattle.queue.proofs.Granted.{latest-most, latest-in}
 use Rattle.queue.proofs.Phases.{phase-idle, order-idle, phase-asked, order-asked, phase-numbered, order-numbered, number-some, phase-small}
-use Rattle.queue.proofs.Waiting.{waiting-in, waiting-rising, latest-waits}
+use Rattle.queue.proofs.Waiting.{waiting-in, waiting-rising, ownTake, ownReturn, latest-waits}
 use Rattle.queue.proofs.Clocks.{last-none, last-le-clock}
 use Rattle.queue.proofs.Fitting.{Fitting}
 use Rattle.queue.proofs.Totals.{total-fits, one-take, no-take, none-own, waits-few}
 use Rattle.post.specs.Record.{lastOf, inSlots}
 use Rattle.post.specs.Sound.{endKind, ownFits, ownFew, orderFits, sound}
 use Rattle.post.proofs.Ranges.{Range}
-use Rattle.post.proofs.SoundMade.{sound-made}
+use Rattle.post.proofs.SoundMade.{sound-passes}
 use Rattle.post.proofs.OwnTakes.{end-of-own}
 use Rattle.feeder.specs.Image.{image}
 use Rattle.feeder.proofs.ImageParts.{floorOf, image-waiting, image-last, image-floor, heard-floor}
@@ -48,6 +47,10 @@ numbered-fits : (phase takes returns end : ℕ) (c : Bool) → phase ≡ cond c 
 unfolding ownFits
 numbered-fits phase takes returns end true p t r = rw (p, t, r) tt
 numbered-fits phase takes returns end false p t r = rw (p, t, r) tt
+
+-- the rule on the own messages among ms
+abbrev ownFit : Start → Queue → List Message → Bool
+ownFit st q ms = ownFits (phase st q) (many (ownTake (st .own)) ms) (many (ownReturn (st .own)) ms) (endKind (st .own) 0 ms)
 
 low-order : (phase order takes room : ℕ) → phase ≤ 1 → order ≡ 0 → T (orderFits phase order takes room)
 unfolding orderFits
@@ -70,8 +73,7 @@ module _ (st : Start) (q : Queue) (k : Fitting st q) where
   abbrev g : Sorted st q
   g = k .kept .good .sorted
 
-  own-fits : T (ownFits (phase st q) (many (λ m. by (st .own) m && isTake m) (waiting st q)) (many (λ m. by (st .own) m && isReturn m) (waiting st q))
-      (endKind (st .own) 0 (waiting st q)))
+  own-fits : T (ownFit st q (waiting st q))
   own-fits =
       let l = latest st q in
       test (isTake l)
@@ -102,11 +104,8 @@ module _ (st : Start) (q : Queue) (k : Fitting st q) where
   -- every other post has been heard where there is none
   none-alone : st .posts ≡ 1 → length (waiting st q) ≡ 0
   none-alone e =
-      ap length (many-none-are (waiting st q) (λ m i.
-      T-not (heard st q m) (waiting-in st q m i .2) (at-heard st q m (λ r l d. absurd (d (let a = g .fit .mine in omega arith))))))
-    where
-      many-none-are : (l : List Message) → ((m : Message) → In m l → ⊥) → l ≡ []
-      many-none-are l h = sym (keep-all (λ m. true) l (λ a i. tt)) ∙ keep-none (λ m. true) l (λ a i. h a i)
+      length-none (waiting st q) (λ m i.
+      T-not (heard st q m) (waiting-in st q m i .2) (at-heard st q m (λ r l d. absurd (d (let a = g .fit .mine in omega arith)))))
 
   above-floor : (m : Message) → In m (waiting st q) → floorOf st q < stamp m
   above-floor m i =
@@ -126,7 +125,7 @@ module _ (st : Start) (q : Queue) (k : Fitting st q) where
   image-sound r =
       let w = image-waiting st q in
       let last-is = image-last st q g in
-      sound-made (image st q) (record {
+      sound-passes (image st q) (record {
         posts-low = r .posts-low;
         posts-high = r .posts-high;
         own = r .own-low;
@@ -151,7 +150,7 @@ module _ (st : Start) (q : Queue) (k : Fitting st q) where
         alone = none-alone;
         blanks = blank-rest;
         few = λ x l d. subst (λ (ms : List Message). many (by x) ms ≤ 4) (sym w) (k .few x l d);
-        own-few = subst (λ (ms : List Message). T (ownFits (phase st q) (many (λ m. by (st .own) m && isTake m) ms) (many (λ m. by (st .own) m && isReturn m) ms) (endKind (st .own) 0 ms))) (sym w) own-fits;
+        own-few = subst (λ (ms : List Message). T (ownFit st q ms)) (sym w) own-fits;
         sum = subst (λ (n : ℕ). many isTake (settled st q) + many isReturn (settled st q) + length (waiting st q) ≤ n)
             (sym (sumTo-cong 16 (lastOf (image st q)) (λ x. last x q) (λ x l. last-is x))) (total-fits st q g);
         order = order-fits;

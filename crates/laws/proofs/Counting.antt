@@ -1,19 +1,19 @@
--- How many of a list pass a test, with one put in, in a list joined at its end, and up to a member. Assumes nothing.
+-- How many of a list pass a test, and how many are up to a member; and the greatest number with one put in. Assumes nothing.
 use mathlib.Core.Path.{_≡_, refl, sym, ap, _∙_}
 use mathlib.Core.Logic.{inl, inr, ⊎-elim}
 use mathlib.Core.Bool.{Bool, true, not, _&&_}
 use mathlib.Core.List.{List, [], _∷_, _++_}
 use Prim.Native.Nat.{ℕ, _+_, _≤_, _<_, max}
 use native.Mathlib.Omega.{arith}
-use lib.Dec.{T, leb, ltb, not-T, leb→le, le→leb}
-use lib.ListN.{length, length-append}
+use lib.Dec.{T, leb, ltb, leb→le, le→leb}
+use lib.ListN.{length}
 use lib.Ieee.Bits.{is-true, is-false}
-use mir.Facts.{yes-and}
 use Rattle.laws.specs.Below.{one?}
-use Rattle.laws.specs.Lists.{In, keep, many, all, Rising, put, upto, top}
+use Rattle.laws.specs.Lists.{In, keep, many, Rising, put, upto, top}
 use Rattle.laws.proofs.Tests.{test, cond-both, and-r}
 use Rattle.laws.proofs.BelowLaws.{one-yes, one-le}
-use Rattle.laws.proofs.ListLaws.{in-cast, in-keep, keep-in, keep-yes, keep-append, keep-keep, keep-none, many-cons, many-le}
+use Rattle.laws.proofs.ListLaws.{in-cast, in-keep, keep-in, keep-yes, keep-keep, many-cons, many-le}
+use Rattle.laws.proofs.Passing.{keep-all, many-none, many-append}
 use Rattle.laws.proofs.RisingLaws.{rising-keep, rising-same}
 
 pub one-most : (b : Bool) → one? b ≤ 1
@@ -23,21 +23,8 @@ pub one-no : (b : Bool) → T (not b) → one? b ≡ 0
 one-no b n = rw (is-false b n)
 
 module _ {A : Type 0} where
-  pub at-all : (f : A → Bool) (l : List A) → ((a : A) → In a l → T (f a)) → T (all f l)
-  unfolding all
-  at-all f [] h = tt
-  at-all f (x ∷ xs) h = yes-and (f x) (all f xs) (h x (inl refl)) (at-all f xs (λ a i. h a (inr i)))
-
-  pub keep-all : (f : A → Bool) (l : List A) → ((a : A) → In a l → T (f a)) → keep f l ≡ l
-  unfolding keep
-  keep-all f [] h = refl
-  keep-all f (x ∷ xs) h = keep-yes f x xs (h x (inl refl)) ∙ ap (λ (l : List A). x ∷ l) (keep-all f xs (λ a i. h a (inr i)))
-
   pub many-all : (f : A → Bool) (l : List A) → ((a : A) → In a l → T (f a)) → many f l ≡ length l
   many-all f l h = ap length (keep-all f l h)
-
-  pub many-none : (f : A → Bool) (l : List A) → ((a : A) → In a l → T (f a) → ⊥) → many f l ≡ 0
-  many-none f l h = ap length (keep-none f l (λ a i. not-T (f a) (h a i)))
 
   -- a test sees no more in what another keeps
   pub many-keep : (f g : A → Bool) (l : List A) → many f (keep g l) ≤ many f l
@@ -46,18 +33,7 @@ module _ {A : Type 0} where
       let h = many-le (λ a. g a && f a) f l (λ a i. and-r (g a) (f a)) in
       omega arith
 
-  pub many-append : (f : A → Bool) (s t : List A) → many f (s ++ t) ≡ many f s + many f t
-  many-append f s t = ap length (keep-append f s t) ∙ length-append (keep f s) (keep f t)
-
 module _ {A : Type 0} (key : A → ℕ) where
-  pub many-put : (f : A → Bool) (a : A) (l : List A) → many f (put key a l) ≡ one? (f a) + many f l
-  unfolding put
-  many-put f a [] = many-cons f a []
-  many-put f a (x ∷ xs) =
-      cond-both (λ l. many f l ≡ one? (f a) + many f (x ∷ xs)) (ltb (key a) (key x)) (a ∷ x ∷ xs) (x ∷ put key a xs)
-      (λ y. many-cons f a (x ∷ xs))
-      (λ n. let b = many-cons f x (put key a xs) in let c = many-cons f x xs in let d = many-put f a xs in omega arith)
-
   -- the only one that passes
   pub many-one : (f : A → Bool) (l : List A) (t : A) → Rising key l → In t l → T (f t) → ((a : A) → In a l → T (f a) → a ≡ t) → many f l ≡ 1
   many-one f l t r i y h =

@@ -6,5 +6,6 @@ pub mod ListLaws
 pub mod RisingLaws
 pub mod ScanLaws
 pub mod BitLaws
+pub mod Passing
 pub mod Counting
-pub mod SumLaws
+pub mod SumBounds

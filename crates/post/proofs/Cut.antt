@@ -1,17 +1,16 @@
--- The floor cuts a rising list in two, and what is at or below it is at or below every other post's last stamp. Assumes nothing.
+-- The least over the other posts, and where it cuts a rising list in two. Assumes nothing.
 use mathlib.Core.Path.{_≡_, refl, sym, ap, _∙_}
 use mathlib.Core.Logic.{⊎-elim}
 use mathlib.Core.Bool.{Bool, not}
 use mathlib.Core.List.{List, [], _∷_}
-use Prim.Native.Nat.{ℕ, zero, suc, _^_, _≤_, _<_}
+use Prim.Native.Nat.{ℕ, zero, suc, _^_, _≤_, _<_, min}
 use native.Mathlib.Omega.{arith}
 use lib.Dec.{T, leb, ltb, eqb, not-T, leb→le, le→leb, ltb→lt, nltb→le, eqb→eq, T-not}
 use lib.ListN.{length, drop}
-use lib.Ieee.Bits.{is-true, is-false}
 use Rattle.laws.specs.Lists.{In, keep, Rising}
-use Rattle.laws.proofs.Tests.{test, neqb→ne}
+use Rattle.laws.proofs.Tests.{test, cond-both, neqb→ne}
 use Rattle.laws.proofs.ListLaws.{keep-yes, keep-no, keep-none}
-use Rattle.laws.proofs.Counting.{keep-all}
+use Rattle.laws.proofs.Passing.{keep-all}
 use Rattle.frame.specs.declared.Message.{Message}
 use Rattle.frame.specs.Message.{stamp}
 use Rattle.post.specs.Record.{leastTo}
@@ -19,68 +18,59 @@ use Rattle.post.specs.Settle.{upTo}
 
 -- ---- the least over the other posts
 
-pub least-at : (n own : ℕ) (f : ℕ → ℕ) (x : ℕ) → x ≤ leastTo n own f → (r : ℕ) → r < n → (r ≡ own → ⊥) → x ≤ f r
-unfolding leastTo
-least-at zero own f x h r l d = absurd (omega arith)
-least-at (suc k) own f x h r l d =
-    test (eqb k own)
-    (λ y.
-    let e = eqb→eq k own y in
-    let z : r ≡ k → ⊥ = λ a. d (a ∙ e) in
-    least-at k own f x (rw (is-true (eqb k own) y) at h) r (omega arith) d)
-    (λ y.
-    let m = rw (is-false (eqb k own) y) at h in
-    test (eqb r k)
-    (λ z. let a = ap f (eqb→eq r k z) in omega arith)
-    (λ z. let e = neqb→ne r k z in least-at k own f x (omega arith) r (omega arith) d))
+module _ (own : ℕ) (f : ℕ → ℕ) where
+  pub least-le : (n r : ℕ) → r < n → (r ≡ own → ⊥) → leastTo n own f ≤ f r
+  unfolding leastTo
+  least-le zero r l d = absurd (omega arith)
+  least-le (suc n) r l d =
+      cond-both (λ x. x ≤ f r) (eqb n own) (leastTo n own f) (min (f n) (leastTo n own f))
+      (λ y. let e = eqb→eq n own y in let z : r ≡ n → ⊥ = λ a. d (a ∙ e) in least-le n r (omega arith) d)
+      (λ y.
+      test (eqb r n)
+      (λ z. let a = ap f (eqb→eq r n z) in omega arith)
+      (λ z. let e = neqb→ne r n z in let a = least-le n r (omega arith) d in omega arith))
 
-pub at-least : (n own : ℕ) (f : ℕ → ℕ) (x : ℕ) → x ≤ 2 ^ 40 → ((r : ℕ) → r < n → (r ≡ own → ⊥) → x ≤ f r) → x ≤ leastTo n own f
-unfolding leastTo
-at-least zero own f x b h = b
-at-least (suc k) own f x b h =
-    let a = at-least k own f x b (λ r l. h r (omega arith)) in
-    test (eqb k own)
-    (λ y. rw (is-true (eqb k own) y) a)
-    (λ y. let e = h k (omega arith) (neqb→ne k own y) in rw (is-false (eqb k own) y) (omega arith))
-
-pub least-cong : (n own : ℕ) (f g : ℕ → ℕ) → ((r : ℕ) → r < n → f r ≡ g r) → leastTo n own f ≡ leastTo n own g
-unfolding leastTo
-least-cong zero own f g h = refl
-least-cong (suc n) own f g h = rw (h n (omega arith), least-cong n own f g (λ r l. h r (omega arith)))
+  pub le-least : (n x : ℕ) → x ≤ 2 ^ 40 → ((r : ℕ) → r < n → (r ≡ own → ⊥) → x ≤ f r) → x ≤ leastTo n own f
+  unfolding leastTo
+  le-least zero x b h = b
+  le-least (suc n) x b h =
+      let a = le-least n x b (λ r l. h r (omega arith)) in
+      cond-both (λ y. x ≤ y) (eqb n own) (leastTo n own f) (min (f n) (leastTo n own f))
+      (λ y. a)
+      (λ y. let e = h n (omega arith) (neqb→ne n own y) in omega arith)
 
 -- ---- the cut
 
 abbrev pub under : ℕ → Message → Bool
 under t m = leb (stamp m) t
 
-module _ (t : ℕ) (x : Message) (xs : List Message) (r : Rising stamp (x ∷ xs)) where
-  all-above : T (ltb t (stamp x)) → (a : Message) → In a (x ∷ xs) → T (not (under t a))
-  all-above y a i =
+module _ (t : ℕ) where
+  -- what stays
+  abbrev pub leftOf : List Message → List Message
+  leftOf ms = drop (length (upTo t ms)) ms
+
+  all-above : (x : Message) (xs : List Message) → Rising stamp (x ∷ xs) → T (ltb t (stamp x)) → (a : Message) → In a (x ∷ xs) → T (not (under t a))
+  all-above x xs r y a i =
       not-T (under t a) (λ z.
       let p = ltb→lt t (stamp x) y in
       let k = leb→le (stamp a) t z in
       ⊎-elim (λ e. let c = ap stamp e in omega arith) (λ j. let c = r .0 a j in omega arith) i)
 
-  first-under : T (not (ltb t (stamp x))) → T (under t x)
-  first-under n = le→leb (stamp x) t (nltb→le t (stamp x) n)
+  pub upTo-keep : (l : List Message) → Rising stamp l → upTo t l ≡ keep (under t) l
+  unfolding upTo keep
+  upTo-keep [] r = refl
+  upTo-keep (x ∷ xs) r =
+      cond-both (λ g. g ≡ keep (under t) (x ∷ xs)) (ltb t (stamp x)) [] (x ∷ upTo t xs)
+      (λ y. sym (keep-none (under t) (x ∷ xs) (all-above x xs r y)))
+      (λ n. ap (λ (l : List Message). x ∷ l) (upTo-keep xs (r .1)) ∙ sym (keep-yes (under t) x xs (le→leb (stamp x) t (nltb→le t (stamp x) n))))
 
-pub up-to-is : (t : ℕ) (l : List Message) → Rising stamp l → upTo t l ≡ keep (under t) l
-unfolding upTo
-up-to-is t [] r = unfold keep in refl
-up-to-is t (x ∷ xs) r =
-    test (ltb t (stamp x))
-    (λ y. rw (is-true (ltb t (stamp x)) y) (sym (keep-none (under t) (x ∷ xs) (all-above t x xs r y))))
-    (λ n.
-    rw (is-false (ltb t (stamp x)) n) (ap (λ (l : List Message). x ∷ l) (up-to-is t xs (r .1))
-    ∙ sym (keep-yes (under t) x xs (first-under t x xs r n))))
-
-pub rest-is : (t : ℕ) (l : List Message) → Rising stamp l → drop (length (upTo t l)) l ≡ keep (λ m. not (under t m)) l
-unfolding upTo
-rest-is t [] r = unfold keep in refl
-rest-is t (x ∷ xs) r =
-    let f : Message → Bool = λ m. not (under t m) in
-    test (ltb t (stamp x))
-    (λ y. rw (is-true (ltb t (stamp x)) y) (sym (keep-all f (x ∷ xs) (all-above t x xs r y))))
-    (λ n.
-    rw (is-false (ltb t (stamp x)) n) (rest-is t xs (r .1)
-    ∙ sym (keep-no f x xs (not-T (f x) (λ z. T-not (under t x) z (first-under t x xs r n))))))
+  pub left-keep : (l : List Message) → Rising stamp l → leftOf l ≡ keep (λ m. not (under t m)) l
+  unfolding upTo keep
+  left-keep [] r = refl
+  left-keep (x ∷ xs) r =
+      let f : Message → Bool = λ m. not (under t m) in
+      cond-both (λ g. drop (length g) (x ∷ xs) ≡ keep f (x ∷ xs)) (ltb t (stamp x)) [] (x ∷ upTo t xs)
+      (λ y. sym (keep-all f (x ∷ xs) (all-above x xs r y)))
+      (λ n.
+      left-keep xs (r .1)
+      ∙ sym (keep-no f x xs (not-T (f x) (λ z. T-not (under t x) z (le→leb (stamp x) t (nltb→le t (stamp x) n))))))

@@ -12,7 +12,7 @@ use Rattle.laws.specs.Lists.{In, all, many, Rising}
 use Rattle.laws.specs.Below.{allTo, sumTo}
 use Rattle.laws.proofs.Tests.{test, or-l, or-r, neqb→ne}
 use Rattle.laws.proofs.BelowLaws.{at-allTo}
-use Rattle.laws.proofs.Counting.{at-all}
+use Rattle.laws.proofs.Passing.{at-all}
 use Rattle.frame.specs.declared.Message.{Message}
 use Rattle.frame.specs.Message.{blank, counted, stamp, by}
 use Rattle.post.specs.declared.Post.{Post}
@@ -111,6 +111,6 @@ module _ (p : Post) (s : Sound p) where
   unfolding countRules sumFits
   counts = all-pass (countRules p) (le→leb (p .takes + p .returns + p .waits) (sumTo 16 (lastOf p)) (s .sum), (s .order, tt))
 
-  pub sound-made : T (sound p)
+  pub sound-passes : T (sound p)
   unfolding sound
-  sound-made = yes-and (every (numberRules p)) _ numbers (yes-and (every (slotRules p)) _ slots counts)
+  sound-passes = yes-and (every (numberRules p)) _ numbers (yes-and (every (slotRules p)) _ slots counts)

@@ -9,7 +9,8 @@ use Rattle.laws.specs.Below.{one?}
 use Rattle.laws.specs.Lists.{keep, many, put, top}
 use Rattle.laws.proofs.Tests.{test, cond-both, and-l}
 use Rattle.laws.proofs.BelowLaws.{one-eqb}
-use Rattle.laws.proofs.Counting.{one-most, one-no, many-none, many-keep, many-put}
+use Rattle.laws.proofs.Passing.{many-none, many-put}
+use Rattle.laws.proofs.Counting.{one-most, one-no, many-keep}
 use Rattle.frame.specs.declared.Message.{Message}
 use Rattle.frame.specs.Message.{msg, isReturn, counted, known, lastCounter, stamp, by}
 use Rattle.frame.specs.Frame.{fieldsOf}
@@ -57,7 +58,7 @@ said : (st : Start) (q : Queue) → Fitting st q → (kind : ℕ) → T (known k
 said st q k kind x c f =
     let b = between-say st q (k .kept .good .sorted) kind x c in
     let a = many-after st q (say st kind q) (put stamp (saying st kind q) (waiting st q)) b f in
-    let p = many-put stamp f (saying st kind q) (waiting st q) in
+    let p = many-put f stamp (saying st kind q) (waiting st q) in
     omega arith
 
 others-few : (st : Start) (q : Queue) → Fitting st q → (kind : ℕ) → T (known kind) → T (counted (msg kind 0 0))
@@ -83,7 +84,7 @@ module _ (st : Start) (q : Queue) (m : Message) (k : Fitting st q) (w : New st q
       let a = many-after st q (accept st q m) (arrived st q m) (between-accept st q (k .kept .good .sorted) m w) f in
       let b : many f (arrived st q m) ≤ n =
       cond-both (λ v. many f v ≤ n) (counted m) (put stamp m (waiting st q)) (waiting st q)
-      (λ c. let p = many-put stamp f m (waiting st q) in let h = new c in omega arith)
+      (λ c. let p = many-put f stamp m (waiting st q) in let h = new c in omega arith)
       (λ x. old)
       in
       omega arith
