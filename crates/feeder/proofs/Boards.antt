@@ -120,25 +120,26 @@ module _ (L : Line) (fits : LineFits L) (narrow : L .feeder ≤ 255) (s : Boards
       let sender = ap (λ (y : Fields). y .message .sender) back ∙ eqb→eq (x .sender) p (i .1) in
       at-one q lq (receive-call (frame (L .feeder) x) buffer) (omega arith) (λ r. eqb r p) (λ r. ap (eqb r) (sym sender))
 
-  frames-left : (p q : ℕ) → p < L .posts → q < L .posts → (p ≡ q → ⊥) → drop (s q .accepted p) (s p .wrote) ≡ map (frame (L .feeder)) (pending f p q)
+  -- the frames of p that q has not accepted are those of the messages it has still to accept
+  frames-left : (p q : ℕ) → p < L .posts → q < L .posts → (p ≡ q → ⊥)
+      → drop (s q .accepted p) (s p .wrote) ≡ map (frame (L .feeder)) (pending f p q)
   unfolding pending
   frames-left p q lp lq d =
       ap₂ drop (m q lq .accepted-is p d) (m p lp .wrote-is) ∙ drop-map (frame (L .feeder)) (length (had f p q)) (sent f p)
 
+  -- a take or return at p, which brings no message
+  at-own : (p : ℕ) (c : Call) → CounterFits c → ((r : ℕ) → false ≡ brings c r)
+      → Matches L (cond (ltb p (L .posts)) (with-board s p (called (s p) c (λ r. false))) s) (after L f (cond (ltb p (L .posts)) (at-post p c) none))
+  at-own p c x e = go (ltb p (L .posts)) (ltb→lt p (L .posts))
+    where
+      go : (t : Bool) → (T t → p < L .posts) → Matches L (cond t (with-board s p (called (s p) c (λ r. false))) s) (after L f (cond t (at-post p c) none))
+      go true l = at-one p (l tt) c x (λ r. false) e
+      go false l = m
+
   matches-act : (a : Act) → Matches L (acted L s a) (after L f (made L f a))
   unfolding acted made pending
-  matches-act (takeAt p) = go (ltb p (L .posts)) (ltb→lt p (L .posts))
-    where
-      go : (t : Bool) → (T t → p < L .posts)
-          → Matches L (cond t (with-board s p (called (s p) (take-call buffer) (λ r. false))) s) (after L f (cond t (at-post p (take-call buffer)) none))
-      go true l = at-one p (l tt) (take-call buffer) tt (λ r. false) (λ r. refl)
-      go false l = m
-  matches-act (returnAt p) = go (ltb p (L .posts)) (ltb→lt p (L .posts))
-    where
-      go : (t : Bool) → (T t → p < L .posts)
-          → Matches L (cond t (with-board s p (called (s p) (return-call buffer) (λ r. false))) s) (after L f (cond t (at-post p (return-call buffer)) none))
-      go true l = at-one p (l tt) (return-call buffer) tt (λ r. false) (λ r. refl)
-      go false l = m
+  matches-act (takeAt p) = at-own p (take-call buffer) tt (λ r. refl)
+  matches-act (returnAt p) = at-own p (return-call buffer) tt (λ r. refl)
   matches-act (deliver p q) = go (ltb p (L .posts) && (ltb q (L .posts) && not (eqb p q))) ready
     where
       ready : T (ltb p (L .posts) && (ltb q (L .posts) && not (eqb p q)))

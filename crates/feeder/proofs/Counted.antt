@@ -82,7 +82,8 @@ module _ (st : Start) (q q′ : Queue) (v : List Message) (b : Between st q q′
       ∙ sym (number-stays st q q′ (b .later) own-latest (in-takes st q own-latest i t h))
       ∙ sym (order-numbered st q′ t (heard-grows st q q′ (b .later) own-latest h)))
 
-  once-numbered : T (isTake own-latest) → T (heard st q′ own-latest) → cond (eqb (order st q′) 0) 1 (cond (leb (order st q′) (room st q′)) 3 2) ≡ phase st q′
+  once-numbered : T (isTake own-latest) → T (heard st q′ own-latest)
+      → cond (eqb (order st q′) 0) 1 (cond (leb (order st q′) (room st q′)) 3 2) ≡ phase st q′
   once-numbered t h =
       rw (order-numbered st q′ t h) (has-number (number st q′ own-latest) (room st q′) (number-some st q′ t h) ∙ sym (phase-numbered st q′ t h))
 

@@ -20,14 +20,16 @@ use Rattle.feeder.proofs.Inquiries.{value-same, missing-same}
 use Rattle.feeder.proofs.Starts.{started-image, started-fits, refuses}
 
 -- one call on the record of a queue answers as on the queue, and leaves the record of the queue after it
-by-call : (st : Start) (q : Queue) → Fitting st q → T (sound (image st q)) → (c : Call) → CounterFits c → Same st (onRecord (image st q) c) (onQueue st q c)
+by-call : (st : Start) (q : Queue) → Fitting st q → T (sound (image st q)) → (c : Call) → CounterFits c
+    → Same st (onRecord (image st q) c) (onQueue st q c)
 by-call st q k s (take-call lent) f = take-same st q k s lent
 by-call st q k s (return-call lent) f = return-same st q k s lent
 by-call st q k s (receive-call frame lent) f = receive-same st q k s frame lent f
 by-call st q k s value-call f = value-same st q k s
 by-call st q k s missing-call f = missing-same st q k s
 
-pub one-call : (st : Start) → Accepted st → (q : Queue) → Fitting st q → (c : Call) → CounterFits c → Same st (onRecord (image st q) c) (onQueue st q c)
+pub one-call : (st : Start) → Accepted st → (q : Queue) → Fitting st q → (c : Call) → CounterFits c
+    → Same st (onRecord (image st q) c) (onQueue st q c)
 one-call st a q k = by-call st q k (image-sound st q k (range-is (st .posts) (st .own) (st .feeder) (st .places) a))
 
 -- the counter of a frame of bytes fits

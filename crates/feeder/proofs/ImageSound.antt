@@ -79,10 +79,13 @@ module _ (st : Start) (q : Queue) (k : Fitting st q) where
       test (isTake l)
       (λ t.
       test (heard st q l)
-      (λ h. numbered-fits _ _ _ _ (leb (number st q l) (room st q)) (phase-numbered st q t h) (none-own st q k h isTake) (none-own st q k h isReturn))
+      (λ h.
+      numbered-fits _ _ _ _ (leb (number st q l) (room st q)) (phase-numbered st q t h) (none-own st q k h isTake)
+      (none-own st q k h isReturn))
       (λ n.
       asked-fits _ _ _ _ (phase-asked st q t n) (one-take st q k t n) (k .own)
-      (end-of-own (st .own) 0 (waiting st q) l (waiting-rising st q (g .rising)) (latest-waits st q (g .rising) (k .kept .paid) t n) (latest-in st q t .1)
+      (end-of-own (st .own) 0 (waiting st q) l (waiting-rising st q (g .rising)) (latest-waits st q (g .rising) (k .kept .paid) t n)
+      (latest-in st q t .1)
       (λ a i o. let w = waiting-in st q a i in latest-most st q a (g .rising) (w .0) o (w .1))
       ∙ eqb→eq (l .kind) 1 t)))
       (λ n. idle-fits _ _ _ _ (phase-idle st q n) (no-take st q k n) (k .own))

@@ -15,5 +15,14 @@ use Rattle.feeder.specs.OnRecord.{onRecord, recordAfter, recordReplies}
 use Rattle.feeder.specs.Nights.{nights, onTheRecord, onTheQueue, NightsHold}
 
 pub nights-hold : NightsHold
-unfolding nights onTheRecord onTheQueue onRecord recordAfter recordReplies listFrom keep all final put upto top allTo sumTo frame fieldsOf formRows clock last heard settled waiting room latest phase order value lacks queue.saying queue.say queue.acks queue.accept queue.grantCame queue.takeRows queue.returnRows queue.fromRows queue.receiveRows queue.send queue.received queue.onQueue queue.queueAfter queue.replies leastTo floor fresh remade inRange absentSilent clockAbove fair rises noneAlone isBlank few endKind ownFits ownFew sumFits orderFits numberRules slotRules countRules sound upTo ownNumber orderAfter phaseAfter settle post.started post.spoken post.came post.noted post.takeRows post.returnRows post.senderRows post.turnRows post.receiveRows post.sent post.sentBytes post.heardFrom post.heardBytes post.valued post.ownStamp post.lacks post.missed
+unfolding nights onTheRecord onTheQueue onRecord recordAfter recordReplies listFrom
+    keep all final put upto top allTo sumTo frame fieldsOf formRows
+    clock last heard settled waiting room latest phase order value lacks
+    queue.saying queue.say queue.acks queue.accept queue.grantCame queue.takeRows queue.returnRows queue.fromRows queue.receiveRows
+    queue.send queue.received queue.onQueue queue.queueAfter queue.replies
+    leastTo floor fresh remade upTo ownNumber orderAfter phaseAfter settle
+    inRange absentSilent clockAbove fair rises noneAlone isBlank few endKind ownFits ownFew sumFits orderFits
+    numberRules slotRules countRules sound
+    post.started post.spoken post.came post.noted post.takeRows post.returnRows post.senderRows post.turnRows post.receiveRows
+    post.sent post.sentBytes post.heardFrom post.heardBytes post.valued post.ownStamp post.lacks post.missed
 nights-hold = refl

@@ -1,4 +1,4 @@
--- What a start gives: the record of the empty queue, or where its numbers are out of range a record that refuses every call. Assumes nothing.
+-- A start gives the record of the empty queue, or one that refuses every call where its numbers are out of range. Assumes nothing.
 use mathlib.Core.Path.{_≡_, refl, sym, ap, subst}
 use mathlib.Core.Bool.{Bool, cond}
 use mathlib.Core.List.{[]}
@@ -20,17 +20,23 @@ use Rattle.feeder.specs.Demand2.{Accepted, refusedOne, RefusedStart}
 -- the record by whether the numbers are in range
 abbrev either : Start → Bool → Post
 either st b =
-    cond {A = Started} b (record { post = fresh (st .posts) (st .own) (st .feeder) (st .places); number = 0 }) (record { post = fresh 0 0 0 0; number = 1 }) .post
+    cond {A = Started} b
+    (record { post = fresh (st .posts) (st .own) (st .feeder) (st .places); number = 0 })
+    (record { post = fresh 0 0 0 0; number = 1 })
+    .post
 
 pub started-image : (st : Start) → Accepted st → startedPost st ≡ image st []
 unfolding post.started fresh image listFrom clock last settled waiting keep top phase order latest final
 started-image st a = ap (either st) (is-true (inRange (st .posts) (st .own) (st .feeder) (st .places)) a)
 
 pub started-fits : (st : Start) → Accepted st → Fitting st []
-started-fits st a = let r = range-is (st .posts) (st .own) (st .feeder) (st .places) a in fitting-empty st (record { few = r .posts-high; mine = r .own-low })
+started-fits st a =
+    let r = range-is (st .posts) (st .own) (st .feeder) (st .places) a in
+    fitting-empty st (record { few = r .posts-high; mine = r .own-low })
 
 zero-refuses : (c : Call) → (onRecord (fresh 0 0 0 0) c .reply ≡ refusedOne c) × (onRecord (fresh 0 0 0 0) c .next ≡ fresh 0 0 0 0)
-unfolding onRecord post.takeRows post.returnRows post.receiveRows post.sent post.sentBytes post.heardFrom post.heardBytes post.valued post.missed sound numberRules inRange fresh
+unfolding onRecord post.takeRows post.returnRows post.receiveRows post.sent post.sentBytes post.heardFrom post.heardBytes post.valued
+    post.missed sound numberRules inRange fresh
 zero-refuses (take-call lent) = (refl, refl)
 zero-refuses (return-call lent) = (refl, refl)
 zero-refuses (receive-call s lent) = (refl, refl)

@@ -60,25 +60,41 @@ module _ (st : Start) (q : Queue) (k : Fitting st q) where
   abbrev g : Sorted st q
   g = k .kept .good .sorted
 
+  -- what waits with an own message of a kind
+  abbrev with-said : ℕ → List Message
+  with-said kind = put stamp (saying st kind q) (waiting st q)
+
   said-step : (kind ph : ℕ) → T (known kind) → T (counted (msg kind 0 0)) → clock q < lastCounter
-      → Stand st q (say st kind q) (put stamp (saying st kind q) (waiting st q)) ph 0 → settle (spoken (image st q) kind ph) ≡ image st (say st kind q)
-  said-step kind ph known-kind c l s =
+      → Stand st q (say st kind q) (with-said kind) ph 0 → settle (spoken (image st q) kind ph) ≡ image st (say st kind q)
+  said-step kind ph n c l s =
       ap settle (spoken-is st q (g .fit) kind ph)
-      ∙ settles-to-image st q (say st kind q) (put stamp (saying st kind q) (waiting st q)) (between-say st q g kind known-kind c)
-      (sorted-say st q g kind known-kind) (let e = clock-say st kind q in omega arith) ph 0 s
+      ∙ settles-to-image st q (say st kind q) (with-said kind) (between-say st q g kind n c) (sorted-say st q g kind n)
+      (let e = clock-say st kind q in omega arith) ph 0 s
+
+  -- the take that is said is the only own one that waits
+  only-said : T (eqb (phase st q) 0) → Only (st .own) (saying st 1 q) (with-said 1)
+  unfolding saying
+  only-said z =
+      let t = saying st 1 q in
+      record {
+        here = put-in stamp t t (waiting st q) (inl refl);
+        own-take = yes-and (eqb (st .own) (st .own)) _ (eqb-refl (st .own)) tt;
+        alone = λ a i o.
+            ⊎-elim
+            (λ d. d)
+            (λ j. absurd (no-take-waits st q (g .rising) (k .kept .paid) (idle-latest st q z) a j o))
+            (in-put stamp t a (waiting st q) i);
+      }
 
   pub take-step : T (eqb (phase st q) 0) → clock q < lastCounter → settle (spoken (image st q) 1 1) ≡ image st (say st 1 q)
   take-step z l =
-      let t = saying st 1 q in
-      let e = latest-said st q g 1 tt in
-      said-step 1 1 tt tt l (asked refl (take-cast (sym e) (unfold saying in tt)) (subst (λ (x : Message). Only (st .own) x (put stamp t (waiting st q))) (sym e) (record {
-        here = put-in stamp t t (waiting st q) (inl refl);
-        own-take = unfold saying in yes-and (eqb (st .own) (st .own)) _ (eqb-refl (st .own)) tt;
-        alone = λ a i o. ⊎-elim (λ d. d) (λ j. absurd (no-take-waits st q (g .rising) (k .kept .paid) (idle-latest st q z) a j o)) (in-put stamp t a (waiting st q) i);
-      })))
+      let e = sym (latest-said st q g 1 tt) in
+      said-step 1 1 tt tt l (asked refl (take-cast e (unfold saying in tt)) (subst (λ (x : Message). Only (st .own) x (with-said 1)) e (only-said z)))
 
   pub return-step : clock q < lastCounter → settle (spoken (image st q) 2 0) ≡ image st (say st 2 q)
-  return-step l = said-step 2 0 tt tt l (idle refl refl (subst (λ (x : Message). T (not (isTake x))) (sym (latest-said st q g 2 tt)) (unfold saying in tt)))
+  return-step l =
+      let e = sym (latest-said st q g 2 tt) in
+      said-step 2 0 tt tt l (idle refl refl (subst (λ (x : Message). T (not (isTake x))) e (unfold saying in tt)))
 
 -- ---- a message received
 
@@ -110,7 +126,8 @@ module _ (st : Start) (q : Queue) (m : Message) (w : New st q m) (fit : Fit st) 
   heard-is = go (counted m)
     where
       go : (b : Bool) → cond b (came (image st q) m) (noted (image st q) m)
-          ≡ pending st q (cond b (say st 3 (put stamp m q)) (put stamp m q)) (cond b (put stamp m (waiting st q)) (waiting st q)) (phase st q) (order st q)
+          ≡ pending st q (cond b (say st 3 (put stamp m q)) (put stamp m q)) (cond b (put stamp m (waiting st q)) (waiting st q))
+          (phase st q) (order st q)
       go true = came-is
       go false = noted-is
 

@@ -73,7 +73,9 @@ module _ (st : Start) (q : Queue) where
     sent-tells : (c : Call) (kind : ℕ) (rows : List Row) (lent : List ℕ) → ((r : ℕ) → brings c r ≡ false) → Tells st q c (send st q kind rows lent)
     unfolding send
     sent-tells c kind rows lent b =
-        cond-both {A = Answer Queue} (Tells st q c) (eqb (refusal rows) 0) _ _ (λ y. said-tells c kind _ lent b) (λ n. refusal-tells c (refusal rows) lent n)
+        cond-both {A = Answer Queue} (Tells st q c) (eqb (refusal rows) 0) _ _
+        (λ y. said-tells c kind _ lent b)
+        (λ n. refusal-tells c (refusal rows) lent n)
 
     module _ (s lent : List ℕ) (granted : Bool) (w : New st q (fieldsOf s .message)) where
       abbrev m : Message
@@ -112,7 +114,8 @@ module _ (st : Start) (q : Queue) where
             (λ n. let k = ap length (others-accepted st q r m d (neqb→ne r (m .sender) n)) in rw (is-false (eqb r (m .sender)) n) (omega arith));
       }
         where
-          go : (b : Bool) → written (told 0 b granted (cond b (over st (saying st 3 p) lent) lent)) ≡ map (frame (st .feeder)) (cond b (saying st 3 p ∷ []) [])
+          go : (b : Bool) → written (told 0 b granted (cond b (over st (saying st 3 p) lent) lent))
+              ≡ map (frame (st .feeder)) (cond b (saying st 3 p ∷ []) [])
           go true = ap (λ (l : List ℕ). l ∷ []) (one-frame (st .feeder) (saying st 3 p) (drop 12 lent))
           go false = refl
 

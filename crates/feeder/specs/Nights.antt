@@ -140,7 +140,8 @@ P6-at-post-0 =
 -- .. while post 2 acknowledges the takes by (2,2) and (3,2), and the return by (5,2)
 abbrev P6-at-post-2 : Night
 P6-at-post-2 =
-    night (post-of 2 3 1) (accepts (take 1 0) ∷ accepts (take 1 1) ∷ accepts (return 4 0) ∷ []) (writes (ack 2 2) ∷ writes (ack 3 2) ∷ writes (ack 5 2) ∷ [])
+    night (post-of 2 3 1) (accepts (take 1 0) ∷ accepts (take 1 1) ∷ accepts (return 4 0) ∷ [])
+    (writes (ack 2 2) ∷ writes (ack 3 2) ∷ writes (ack 5 2) ∷ [])
     (closing 5 (4 ∷ 1 ∷ 5 ∷ []) (stampOf 1 1) (return 4 0 ∷ []) 2 0 0 0)
 
 -- P6: in the same run, later, post 1, in phase 2 with number 2, has last counters 4 (a return from post 0) and 3 (post 2): no grant.
@@ -156,7 +157,9 @@ P6 = night (post-of 1 3 1) P6-calls P6-answers (closing 5 (4 ∷ 5 ∷ 3 ∷ [])
 
 -- P7: acknowledgment (5,2) arrives: granted
 abbrev P7 : Night
-P7 = night (post-of 1 3 1) (P6-calls ++ (accepts (ack 5 2) ∷ [])) (P6-answers ++ (granted ∷ [])) (closing 5 (4 ∷ 5 ∷ 5 ∷ []) (stampOf 4 0) [] 2 1 3 2)
+P7 =
+    night (post-of 1 3 1) (P6-calls ++ (accepts (ack 5 2) ∷ [])) (P6-answers ++ (granted ∷ []))
+    (closing 5 (4 ∷ 5 ∷ 5 ∷ []) (stampOf 4 0) [] 2 1 3 2)
 
 -- P8: N = 3, own number 0, post 2 silent: four takes and returns of post 1 wait, the fifth gets 12; an acknowledgment from post 1 is accepted
 abbrev P8 : Night

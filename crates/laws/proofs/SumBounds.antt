@@ -24,7 +24,11 @@ unfolding sumTo
 sumTo-fours-but zero k f l t h = absurd (omega arith)
 sumTo-fours-but (suc n) k f l t h =
     test (eqb n k)
-    (λ y. let c = ap f (eqb→eq n k y) in let e = eqb→eq n k y in let b = sumTo-fours n f (λ i j. h i (omega arith) (λ d. omega arith)) in omega arith)
+    (λ y.
+    let e = eqb→eq n k y in
+    let c = ap f e in
+    let b = sumTo-fours n f (λ i j. h i (omega arith) (λ d. omega arith)) in
+    omega arith)
     (λ y.
     let d = neqb→ne n k y in
     let a = h n (omega arith) d in

@@ -56,7 +56,8 @@ ownNumber-none own n (x ∷ xs) h =
     (ownNumber-none own (n + 1) xs (λ a i. h a (inr i))))
     (λ y. rw (is-false (isTake x) y) (ownNumber-none own n xs (λ a i. h a (inr i))))
 
-pub number-of-own : (own n : ℕ) (l : List Message) (t : Message) → Rising stamp l → Only own t l → ownNumber own n l ≡ n + upto stamp (keep isTake l) t
+pub number-of-own : (own n : ℕ) (l : List Message) (t : Message) → Rising stamp l → Only own t l
+    → ownNumber own n l ≡ n + upto stamp (keep isTake l) t
 unfolding ownNumber
 number-of-own own n [] t r o = absurd (o .here)
 number-of-own own n (x ∷ xs) t r o =

@@ -25,11 +25,12 @@ pub clock-say : (st : Start) (kind : ℕ) (q : Queue) → clock (say st kind q) 
 unfolding say saying
 clock-say st kind q = let e = clock-put (saying st kind q) q in omega arith
 
-pub clock-accept : (st : Start) (q : Queue) (m : Message) → clock (accept st q m) ≡ cond (acks m) (suc (max (clock q) (m .counter))) (max (clock q) (m .counter))
+pub clock-accept : (st : Start) (q : Queue) (m : Message)
+    → let c = max (clock q) (m .counter) in clock (accept st q m) ≡ cond (acks m) (suc c) c
 unfolding accept
 clock-accept st q m = go (acks m)
   where
-    go : (b : Bool) → clock (cond b (say st 3 (put stamp m q)) (put stamp m q)) ≡ cond b (suc (max (clock q) (m .counter))) (max (clock q) (m .counter))
+    go : (b : Bool) → let c = max (clock q) (m .counter) in clock (cond b (say st 3 (put stamp m q)) (put stamp m q)) ≡ cond b (suc c) c
     go true = clock-say st 3 (put stamp m q) ∙ ap suc (clock-put m q)
     go false = clock-put m q
 
@@ -43,7 +44,8 @@ last-le-clock r q = top-mono counter (keep (by r) q) q (λ a i. keep-in (by r) a
 pub last-none : (st : Start) (q : Queue) → Sorted st q → (r : ℕ) → st .posts ≤ r → last r q ≡ 0
 unfolding last top
 last-none st q g r h =
-    ap (top counter) (keep-none (by r) q (λ a i. not-T (by r a) (λ y. let e = eqb→eq (a .sender) r y in let l = g .proper a i .sender in omega arith)))
+    ap (top counter) (keep-none (by r) q (λ a i.
+    not-T (by r a) (λ y. let e = eqb→eq (a .sender) r y in let l = g .proper a i .sender in omega arith)))
 
 last-put : (m : Message) (q : Queue) → last (m .sender) (put stamp m q) ≡ max (m .counter) (last (m .sender) q)
 unfolding last

@@ -94,13 +94,17 @@ module _ (st : Start) (q : Queue) (m : Message) (k : Fitting st q) (w : New st q
   came-few r l d =
       came (by r) 4 (k .few r l d) (λ c.
       test (by r m)
-      (λ y. let f = subst (λ (x : ℕ). many (by x) (waiting st q) < 4) (eqb→eq (m .sender) r y) (w .few c) in let o = one-most (by r m) in omega arith)
+      (λ y.
+      let f = subst (λ (x : ℕ). many (by x) (waiting st q) < 4) (eqb→eq (m .sender) r y) (w .few c) in
+      let o = one-most (by r m) in
+      omega arith)
       (λ n. let f = k .few r l d in let o = one-no (by r m) n in omega arith))
 
   came-own : many (ownReturn (st .own)) (waiting st (accept st q m)) ≤ 1
   came-own =
       came (ownReturn (st .own)) 1 (k .own) (λ c.
-      let z = one-no (ownReturn (st .own) m) (not-T (ownReturn (st .own) m) (λ y. w .other (eqb→eq (m .sender) (st .own) (and-l (by (st .own) m) (isReturn m) y)))) in
+      let f = ownReturn (st .own) m in
+      let z = one-no f (not-T f (λ y. w .other (eqb→eq (m .sender) (st .own) (and-l (by (st .own) m) (isReturn m) y)))) in
       let o = k .own in
       omega arith)
 

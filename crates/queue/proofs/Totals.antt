@@ -36,7 +36,11 @@ unfolding top
 one-sender p k [] r s h = omega arith
 one-sender p k (x ∷ xs) r s h =
     let a = h x (inl refl) in
-    let b = one-sender p (x .counter) xs (r .1) (λ c i. s c (inr i)) (λ c i. let d = r .0 c i in let e = s x (inl refl) in let f = s c (inr i) in omega arith) in
+    let b = one-sender p (x .counter) xs (r .1) (λ c i. s c (inr i)) (λ c i.
+    let d = r .0 c i in
+    let e = s x (inl refl) in
+    let f = s c (inr i) in
+    omega arith) in
     omega arith
 
 sent-few : (st : Start) (q : Queue) → Sorted st q → (p : ℕ) → length (keep (by p) q) ≤ last p q
@@ -60,7 +64,8 @@ one-kind : (m : Message) → T (isTake m) → T (isReturn m) → ⊥
 one-kind m a b = let e = eqb→eq (m .kind) 1 a in let f = eqb→eq (m .kind) 2 b in omega arith
 
 split-le : (h : Message → Bool) (l : List Message)
-    → many (λ m. (counted m && h m) && isTake m) l + many (λ m. (counted m && h m) && isReturn m) l + many (λ m. counted m && not (h m)) l ≤ many counted l
+    → many (λ m. (counted m && h m) && isTake m) l + many (λ m. (counted m && h m) && isReturn m) l + many (λ m. counted m && not (h m)) l
+    ≤ many counted l
 unfolding keep
 split-le h [] = omega arith
 split-le h (x ∷ xs) =
@@ -117,7 +122,8 @@ module _ (st : Start) (q : Queue) (k : Fitting st q) where
   -- of its own takes at most the latest waits
   pub one-take : T (isTake (latest st q)) → T (not (heard st q (latest st q))) → many (ownTake (st .own)) (waiting st q) ≡ 1
   one-take t n =
-      many-one stamp (ownTake (st .own)) (waiting st q) (latest st q) (waiting-rising st q (g .rising)) (latest-waits st q (g .rising) (k .kept .paid) t n)
+      many-one stamp (ownTake (st .own)) (waiting st q) (latest st q) (waiting-rising st q (g .rising))
+      (latest-waits st q (g .rising) (k .kept .paid) t n)
       (yes-and (by (st .own) (latest st q)) _ (latest-in st q t .1) t)
       (waits-latest st q (g .rising) (k .kept .paid))
 
