@@ -32,8 +32,8 @@ use Rattle.feeder.proofs.Starts.{started-image, started-fits}
 use Rattle.feeder.proofs.Demand2.{one-call}
 use Rattle.feeder.proofs.Tells.{brings, tells}
 
--- the board of post p beside its full queue
-pub record Stands (L : Line) (p : ℕ) (b : Board) (q : Queue) : Type 0 where
+-- the board of post p has what its full queue has
+pub record Mirrors (L : Line) (p : ℕ) (b : Board) (q : Queue) : Type 0 where
   pub fitting : Fitting (start L p) q
   pub post-is : b .post ≡ image (start L p) q
   pub wrote-is : b .wrote ≡ map (frame (L .feeder)) (keep (by p) q)
@@ -41,11 +41,11 @@ pub record Stands (L : Line) (p : ℕ) (b : Board) (q : Queue) : Type 0 where
   pub marks-is : b .marks ≡ length (grants (start L p) q)
 
 abbrev pub Matches : Line → Boards → Feeder → Type 0
-Matches L s f = (p : ℕ) → p < L .posts → Stands L p (s p) (f p)
+Matches L s f = (p : ℕ) → p < L .posts → Mirrors L p (s p) (f p)
 
-pub stands-begun : (L : Line) → LineFits L → Matches L (begun L) fresh
+pub mirrors-begun : (L : Line) → LineFits L → Matches L (begun L) fresh
 unfolding grants settled keep
-stands-begun L fits p l = record {
+mirrors-begun L fits p l = record {
   fitting = started-fits (start L p) (fits p l);
   post-is = started-image (start L p) (fits p l);
   wrote-is = refl;
@@ -60,9 +60,9 @@ one-more true n = refl
 one-more false n = omega arith
 
 -- from says of whom the call brings a message
-stands-called : (L : Line) → LineFits L → (p : ℕ) → p < L .posts → (b : Board) (q : Queue) → Stands L p b q → (c : Call) → CounterFits c
-    → (from : ℕ → Bool) → ((r : ℕ) → from r ≡ brings c r) → Stands L p (called b c from) (onQueue (start L p) q c .next)
-stands-called L fits p l b q k c w from e =
+mirrors-called : (L : Line) → LineFits L → (p : ℕ) → p < L .posts → (b : Board) (q : Queue) → Mirrors L p b q → (c : Call) → CounterFits c
+    → (from : ℕ → Bool) → ((r : ℕ) → from r ≡ brings c r) → Mirrors L p (called b c from) (onQueue (start L p) q c .next)
+mirrors-called L fits p l b q k c w from e =
     let st = start L p in
     let q′ = onQueue st q c .next in
     let kept = k .fitting .kept in
@@ -99,11 +99,11 @@ module _ (L : Line) (fits : LineFits L) (narrow : L .feeder ≤ 255) (s : Boards
   at-one p l c x from e r lr =
       let b = called (s p) c from in
       let q = onQueue (start L p) (f p) c .next in
-      let new = stands-called L fits p l (s p) (f p) (m p l) c x from e in
-      go (eqb r p) (λ y. subst (λ (z : ℕ). Stands L z b q) (sym (eqb→eq r p y)) new)
+      let new = mirrors-called L fits p l (s p) (f p) (m p l) c x from e in
+      go (eqb r p) (λ y. subst (λ (z : ℕ). Mirrors L z b q) (sym (eqb→eq r p y)) new)
     where
-      go : (t : Bool) → (T t → Stands L r (called (s p) c from) (onQueue (start L p) (f p) c .next))
-          → Stands L r (cond t (called (s p) c from) (s r)) (cond t (onQueue (start L p) (f p) c .next) (f r))
+      go : (t : Bool) → (T t → Mirrors L r (called (s p) c from) (onQueue (start L p) (f p) c .next))
+          → Mirrors L r (cond t (called (s p) c from) (s r)) (cond t (onQueue (start L p) (f p) c .next) (f r))
       go true new = new tt
       go false new = m r lr
 

@@ -5,7 +5,7 @@ use mathlib.Core.List.{List}
 use Prim.Native.Nat.{ℕ, _+_, _≤_, _<_}
 use native.Mathlib.Omega.{arith}
 use lib.Dec.{T, leb, eqb, T-not, not-T, leb→le, le→leb, eqb→eq}
-use lib.ListN.{length, drop}
+use lib.ListN.{length}
 use lib.Ieee.Bits.{is-true, is-false}
 use Rattle.laws.specs.Lists.{In, keep, many}
 use Rattle.laws.proofs.Tests.{test, same-test}
@@ -29,8 +29,8 @@ use Rattle.feeder.proofs.Listed.{listFrom-at}
 use Rattle.feeder.proofs.ImageParts.{floorOf, least-cong, in-slots, heard-floor}
 
 -- what q counted, with the clock and the last counters of a later queue and with v in the slots
-abbrev pub pending : Start → Queue → Queue → List Message → ℕ → ℕ → Post
-pending st q q′ v phase order = remade (image st q) (clock q′) (listFrom 0 16 (λ r. last r q′)) v phase order
+abbrev pub unsettled : Start → Queue → Queue → List Message → ℕ → ℕ → Post
+unsettled st q q′ v phase order = remade (image st q) (clock q′) (listFrom 0 16 (λ r. last r q′)) v phase order
 
 -- the own take may stand in three ways: there is none, it is among v and no other is, or q has numbered it
 pub data Stand (st : Start) (q q′ : Queue) (v : List Message) (phase order : ℕ) : Type 0 where
@@ -106,9 +106,11 @@ module _ (st : Start) (q q′ : Queue) (v : List Message) (b : Between st q q′
       (sym (phase-numbered st q′ t h′ ∙ ap three (is-true (leb n′ (room st q′)) (le→leb n′ (room st q′) (omega arith))))))
       (λ x. rw (p ∙ ap three (is-false (leb n (room st q)) x)) (once-numbered t h′))
 
+  -- ---- the record that is to be settled: what leaves its slots, and what is left
+
   module _ (g : Sorted st q′) (wide : clock q′ ≤ lastCounter) (ph o : ℕ) where
     abbrev before : Post
-    before = pending st q q′ v ph o
+    before = unsettled st q q′ v ph o
 
     abbrev counts : List Message
     counts = upTo (floor before) (waitingOf before)
@@ -132,14 +134,14 @@ module _ (st : Start) (q q′ : Queue) (v : List Message) (b : Between st q q′
     gone-is : counts ≡ gone
     gone-is = ap₂ upTo floor-is waits-are ∙ upTo-keep (floorOf st q′) v (b .rising) ∙ keep-cong (under (floorOf st q′)) (heard st q′) v under-heard
 
-    left-is : drop (length (counts)) (waitingOf before) ≡ waiting st q′
+    left-is : leftOf (floor before) (waitingOf before) ≡ waiting st q′
     left-is =
         ap₂ leftOf floor-is waits-are
         ∙ left-keep (floorOf st q′) v (b .rising)
         ∙ keep-cong (λ m. not (under (floorOf st q′) m)) (λ m. not (heard st q′ m)) v (λ m i. ap not (under-heard m i))
         ∙ sym (waits-on st q q′ v b)
 
-    count-is : (f : Message → Bool) → many f (settled st q) + many f (counts) ≡ many f (settled st q′)
+    count-is : (f : Message → Bool) → many f (settled st q) + many f counts ≡ many f (settled st q′)
     count-is f = ap (λ (l : List Message). many f (settled st q) + many f l) gone-is ∙ sym (count-after st q q′ v b f)
 
     pub settles-to-image : Stand st q q′ v ph o → settle before ≡ image st q′
@@ -159,9 +161,9 @@ module _ (st : Start) (q q′ : Queue) (v : List Message) (b : Between st q q′
       order = order-is i;
     }
       where
-        order-is : orderAfter before (counts) ≡ order st q′
+        order-is : orderAfter before counts ≡ order st q′
         order-is = ap (λ (l : List Message). cond (eqb ph 1) (ownNumber (st .own) (many isTake (settled st q)) l) o) gone-is ∙ order-after ph o s
 
-        phase-is : phaseAfter ph (orderAfter before (counts))
-            (st .places + (many isReturn (settled st q) + many isReturn (counts))) ≡ phase st q′
+        phase-is : phaseAfter ph (orderAfter before counts)
+            (st .places + (many isReturn (settled st q) + many isReturn counts)) ≡ phase st q′
         phase-is = ap₂ (λ (x n : ℕ). phaseAfter ph x (st .places + n)) order-is (count-is isReturn) ∙ phase-after ph o s

@@ -18,7 +18,7 @@ use Rattle.post.specs.declared.Post.{Post}
 use Rattle.post.proofs.Ranges.{Range, range-is}
 use Rattle.feeder.specs.Image.{image}
 use Rattle.feeder.specs.Records.{Boards, begun, runBoards, LineFits, RecordsAndBytes}
-use Rattle.feeder.proofs.Boards.{Stands, stands-begun, matches-run}
+use Rattle.feeder.proofs.Boards.{Mirrors, mirrors-begun, matches-run}
 
 module _ (L : Line) (fits : LineFits L) (acts : List Act) where
   abbrev boards : Boards
@@ -30,10 +30,10 @@ module _ (L : Line) (fits : LineFits L) (acts : List Act) where
   range : (p : ℕ) → p < L .posts → Range (L .posts) p (L .feeder) (L .places)
   range p l = range-is (L .posts) p (L .feeder) (L .places) (fits p l)
 
-  stands : (p : ℕ) → p < L .posts → Stands L p (boards p) (queues p)
-  stands p l =
+  mirrors : (p : ℕ) → p < L .posts → Mirrors L p (boards p) (queues p)
+  mirrors p l =
       let r = range p l in
-      matches-run L fits (r .feeder-high) acts (begun L) fresh (ran-fresh L (r .posts-high)) (stands-begun L fits) p l
+      matches-run L fits (r .feeder-high) acts (begun L) fresh (ran-fresh L (r .posts-high)) (mirrors-begun L fits) p l
 
   -- with no post there is nothing to show
   queues-meet : Demand3 L queues
@@ -44,16 +44,16 @@ module _ (L : Line) (fits : LineFits L) (acts : List Act) where
       (leb-total (L .posts) 0)
 
   marks-sum : sumTo (L .posts) (λ p. boards p .marks) ≡ sumTo (L .posts) (λ p. length (grants (start L p) (queues p)))
-  marks-sum = sumTo-cong (L .posts) _ _ (λ p l. stands p l .marks-is)
+  marks-sum = sumTo-cong (L .posts) _ _ (λ p l. mirrors p l .marks-is)
 
   held-sum : countTo (L .posts) (λ p. eqb (boards p .post .phase) 3) ≡ countTo (L .posts) (λ p. eqb (phase (start L p) (queues p)) 3)
   unfolding image
-  held-sum = sumTo-cong (L .posts) _ _ (λ p l. ap (λ (x : Post). one? (eqb (x .phase) 3)) (stands p l .post-is))
+  held-sum = sumTo-cong (L .posts) _ _ (λ p l. ap (λ (x : Post). one? (eqb (x .phase) 3)) (mirrors p l .post-is))
 
 pub records-and-bytes : RecordsAndBytes
 unfolding granted holding
 records-and-bytes L fits acts =
-    let at = stands L fits acts in
+    let at = mirrors L fits acts in
     let d = queues-meet L fits acts in
     let a = d .never-more in
     let b = d .never-more-hold in

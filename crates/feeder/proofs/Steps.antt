@@ -30,7 +30,7 @@ use Rattle.post.proofs.OwnTakes.{Only}
 use Rattle.feeder.specs.Image.{listFrom, image}
 use Rattle.feeder.proofs.Listed.{set-listFrom}
 use Rattle.feeder.proofs.ImageParts.{image-waiting}
-use Rattle.feeder.proofs.Counted.{pending, Stand, idle, asked, numbered, settles-to-image}
+use Rattle.feeder.proofs.Counted.{unsettled, Stand, idle, asked, numbered, settles-to-image}
 
 -- the last counters of a queue by number
 abbrev lasts : Queue → List ℕ
@@ -52,7 +52,7 @@ module _ (st : Start) (q : Queue) (fit : Fit st) (kind : ℕ) where
       (last-said st kind q ∙ sym (add-one (clock q)))
       (λ r l d. last-said-other st kind q r d)
 
-  spoken-is : (ph : ℕ) → spoken (image st q) kind ph ≡ pending st q (say st kind q) (put stamp (saying st kind q) (waiting st q)) ph 0
+  spoken-is : (ph : ℕ) → spoken (image st q) kind ph ≡ unsettled st q (say st kind q) (put stamp (saying st kind q) (waiting st q)) ph 0
   unfolding spoken image
   spoken-is ph = λ i. remade (image st q) (clock-said i) (lasts-said i) (put stamp (saying-is st kind q i) (image-waiting st q i)) ph 0
 
@@ -107,11 +107,11 @@ module _ (st : Start) (q : Queue) (m : Message) (w : New st q m) (fit : Fit st) 
       (last-new st q m w)
       (λ r l d. last-put-other m q r d)
 
-  noted-is : noted (image st q) m ≡ pending st q (put stamp m q) (waiting st q) (phase st q) (order st q)
+  noted-is : noted (image st q) m ≡ unsettled st q (put stamp m q) (waiting st q) (phase st q) (order st q)
   unfolding noted image
   noted-is = λ i. remade (image st q) (sym (clock-put m q) i) (lasts-put i) (image-waiting st q i) (phase st q) (order st q)
 
-  came-is : came (image st q) m ≡ pending st q (say st 3 (put stamp m q)) (put stamp m (waiting st q)) (phase st q) (order st q)
+  came-is : came (image st q) m ≡ unsettled st q (say st 3 (put stamp m q)) (put stamp m (waiting st q)) (phase st q) (order st q)
   unfolding came image
   came-is =
       let p = put stamp m q in
@@ -121,12 +121,12 @@ module _ (st : Start) (q : Queue) (m : Message) (w : New st q m) (fit : Fit st) 
       lasts-came : set (set (lasts q) (m .sender) (m .counter)) (st .own) (max (clock q) (m .counter) + 1) ≡ lasts (say st 3 (put stamp m q))
       lasts-came = ap₂ (λ (l : List ℕ) (x : ℕ). set l (st .own) (x + 1)) lasts-put (sym (clock-put m q)) ∙ lasts-said st (put stamp m q) fit 3
 
-  heard-is : cond (counted m) (came (image st q) m) (noted (image st q) m) ≡ pending st q (accept st q m) (arrived st q m) (phase st q) (order st q)
+  heard-is : cond (counted m) (came (image st q) m) (noted (image st q) m) ≡ unsettled st q (accept st q m) (arrived st q m) (phase st q) (order st q)
   unfolding accept acks
   heard-is = go (counted m)
     where
       go : (b : Bool) → cond b (came (image st q) m) (noted (image st q) m)
-          ≡ pending st q (cond b (say st 3 (put stamp m q)) (put stamp m q)) (cond b (put stamp m (waiting st q)) (waiting st q))
+          ≡ unsettled st q (cond b (say st 3 (put stamp m q)) (put stamp m q)) (cond b (put stamp m (waiting st q)) (waiting st q))
           (phase st q) (order st q)
       go true = came-is
       go false = noted-is

@@ -56,8 +56,8 @@ takes = take-call buffer
 abbrev returns : Call
 returns = return-call buffer
 
-abbrev accepts : Message → Call
-accepts m = receive-call (frame 7 m) buffer
+abbrev receives : Message → Call
+receives m = receive-call (frame 7 m) buffer
 
 -- replies: done, with this message written or nothing; then the same with the grant; refused
 abbrev writes : Message → Reply
@@ -106,7 +106,7 @@ P2 =
 
 -- P3: N = 3, K = 1. Post 0 takes (1,0). After (2,1) it is still in phase 1, missing set 4, count 1
 abbrev P3-calls : List Call
-P3-calls = takes ∷ accepts (ack 2 1) ∷ missing-call ∷ []
+P3-calls = takes ∷ receives (ack 2 1) ∷ missing-call ∷ []
 
 abbrev P3-answers : List Reply
 P3-answers = writes (take 1 0) ∷ done ∷ lacking 0 4 1 ∷ []
@@ -117,13 +117,13 @@ P3 = night (post-of 0 3 1) P3-calls P3-answers (closing 2 (1 ∷ 2 ∷ 0 ∷ [])
 -- P4: after (2,2) too, granted
 abbrev P4 : Night
 P4 =
-    night (post-of 0 3 1) (P3-calls ++ (accepts (ack 2 2) ∷ missing-call ∷ [])) (P3-answers ++ (granted ∷ lacking 0 0 0 ∷ []))
+    night (post-of 0 3 1) (P3-calls ++ (receives (ack 2 2) ∷ missing-call ∷ [])) (P3-answers ++ (granted ∷ lacking 0 0 0 ∷ []))
     (closing 2 (1 ∷ 2 ∷ 2 ∷ []) (stampOf 2 1) [] 1 0 3 1)
 
 -- P5: N = 3, K = 1; posts 0 and 1 both take with counter 1. Post 0, having accepted take (1,1) and then acknowledgment (2,2),
 -- has floor (1,1), both settled, number 1, granted, value -1
 abbrev P5-calls : List Call
-P5-calls = takes ∷ accepts (take 1 1) ∷ accepts (ack 2 2) ∷ value-call ∷ []
+P5-calls = takes ∷ receives (take 1 1) ∷ receives (ack 2 2) ∷ value-call ∷ []
 
 abbrev P5-answers : List Reply
 P5-answers = writes (take 1 0) ∷ writes (ack 2 0) ∷ granted ∷ worth 0 (negsuc 0) ∷ []
@@ -134,20 +134,20 @@ P5 = night (post-of 0 3 1) P5-calls P5-answers (closing 2 (2 ∷ 1 ∷ 2 ∷ [])
 -- .. and later accepts acknowledgment (3,2), so that its return is (4,0)
 abbrev P6-at-post-0 : Night
 P6-at-post-0 =
-    night (post-of 0 3 1) (P5-calls ++ (accepts (ack 3 2) ∷ returns ∷ [])) (P5-answers ++ (done ∷ writes (return 4 0) ∷ []))
+    night (post-of 0 3 1) (P5-calls ++ (receives (ack 3 2) ∷ returns ∷ [])) (P5-answers ++ (done ∷ writes (return 4 0) ∷ []))
     (closing 4 (4 ∷ 1 ∷ 3 ∷ []) (stampOf 1 1) (return 4 0 ∷ []) 2 0 0 0)
 
 -- .. while post 2 acknowledges the takes by (2,2) and (3,2), and the return by (5,2)
 abbrev P6-at-post-2 : Night
 P6-at-post-2 =
-    night (post-of 2 3 1) (accepts (take 1 0) ∷ accepts (take 1 1) ∷ accepts (return 4 0) ∷ [])
+    night (post-of 2 3 1) (receives (take 1 0) ∷ receives (take 1 1) ∷ receives (return 4 0) ∷ [])
     (writes (ack 2 2) ∷ writes (ack 3 2) ∷ writes (ack 5 2) ∷ [])
     (closing 5 (4 ∷ 1 ∷ 5 ∷ []) (stampOf 1 1) (return 4 0 ∷ []) 2 0 0 0)
 
 -- P6: in the same run, later, post 1, in phase 2 with number 2, has last counters 4 (a return from post 0) and 3 (post 2): no grant.
 -- It is in phase 2 once it has accepted acknowledgment (2,0) of its take
 abbrev P6-calls : List Call
-P6-calls = takes ∷ accepts (take 1 0) ∷ accepts (ack 2 0) ∷ accepts (ack 2 2) ∷ accepts (ack 3 2) ∷ accepts (return 4 0) ∷ []
+P6-calls = takes ∷ receives (take 1 0) ∷ receives (ack 2 0) ∷ receives (ack 2 2) ∷ receives (ack 3 2) ∷ receives (return 4 0) ∷ []
 
 abbrev P6-answers : List Reply
 P6-answers = writes (take 1 1) ∷ writes (ack 2 1) ∷ done ∷ done ∷ done ∷ writes (ack 5 1) ∷ []
@@ -158,14 +158,14 @@ P6 = night (post-of 1 3 1) P6-calls P6-answers (closing 5 (4 ∷ 5 ∷ 3 ∷ [])
 -- P7: acknowledgment (5,2) arrives: granted
 abbrev P7 : Night
 P7 =
-    night (post-of 1 3 1) (P6-calls ++ (accepts (ack 5 2) ∷ [])) (P6-answers ++ (granted ∷ []))
+    night (post-of 1 3 1) (P6-calls ++ (receives (ack 5 2) ∷ [])) (P6-answers ++ (granted ∷ []))
     (closing 5 (4 ∷ 5 ∷ 5 ∷ []) (stampOf 4 0) [] 2 1 3 2)
 
 -- P8: N = 3, own number 0, post 2 silent: four takes and returns of post 1 wait, the fifth gets 12; an acknowledgment from post 1 is accepted
 abbrev P8 : Night
 P8 =
     night (post-of 0 3 1)
-    (accepts (take 1 1) ∷ accepts (return 2 1) ∷ accepts (take 3 1) ∷ accepts (return 4 1) ∷ accepts (take 5 1) ∷ accepts (ack 6 1) ∷ [])
+    (receives (take 1 1) ∷ receives (return 2 1) ∷ receives (take 3 1) ∷ receives (return 4 1) ∷ receives (take 5 1) ∷ receives (ack 6 1) ∷ [])
     (writes (ack 2 0) ∷ writes (ack 3 0) ∷ writes (ack 4 0) ∷ writes (ack 5 0) ∷ refused 12 ∷ done ∷ [])
     (closing 6 (5 ∷ 6 ∷ 0 ∷ []) (stampOf 0 2) (take 1 1 ∷ return 2 1 ∷ take 3 1 ∷ return 4 1 ∷ []) 0 0 0 0)
 
@@ -174,16 +174,16 @@ abbrev P9-closing : Closing
 P9-closing = closing 2 (2 ∷ 1 ∷ []) (stampOf 1 1) [] 1 0 0 0
 
 abbrev P9-once : Night
-P9-once = night (post-of 0 2 1) (accepts (take 1 1) ∷ []) (writes (ack 2 0) ∷ []) P9-closing
+P9-once = night (post-of 0 2 1) (receives (take 1 1) ∷ []) (writes (ack 2 0) ∷ []) P9-closing
 
 abbrev P9-twice : Night
-P9-twice = night (post-of 0 2 1) (accepts (take 1 1) ∷ accepts (take 1 1) ∷ []) (writes (ack 2 0) ∷ refused 10 ∷ []) P9-closing
+P9-twice = night (post-of 0 2 1) (receives (take 1 1) ∷ receives (take 1 1) ∷ []) (writes (ack 2 0) ∷ refused 10 ∷ []) P9-closing
 
 -- P10: N = 2, own number 0: acknowledgment (4294967294,1) is accepted; a take goes out with 4,294,967,295; acknowledgment (4294967295,1)
 -- brings the grant; the return gets 11
 abbrev P10 : Night
 P10 =
-    night (post-of 0 2 1) (accepts (ack 4294967294 1) ∷ takes ∷ accepts (ack 4294967295 1) ∷ returns ∷ [])
+    night (post-of 0 2 1) (receives (ack 4294967294 1) ∷ takes ∷ receives (ack 4294967295 1) ∷ returns ∷ [])
     (done ∷ writes (take 4294967295 0) ∷ granted ∷ refused 11 ∷ [])
     (closing 4294967295 (4294967295 ∷ 4294967295 ∷ []) (stampOf 4294967295 1) [] 1 0 3 1)
 
