@@ -1,7 +1,7 @@
 -- A number below 256 ^ w reads back from its w bytes, and those are the only w bytes that read as it; the same of a row of fields.
 -- Once over the widths. Assumes nothing.
 use Prim.Native.Nat.{ℕ, zero, suc, _+_, _*_, _/_, _%_, _^_, _<_}
-use mathlib.Core.Path.{_≡_, refl, ap, ap₂, _∙_, sym}
+use mathlib.Core.Path.{_≡_, refl, ap, ap₂, _∙_, sym, subst}
 use mathlib.Core.List.{List, [], _∷_, _++_}
 use native.Mathlib.Omega.{arith}
 use native.Mathlib.Nat.{pow-suc, mul-comm, mul-assoc, mod-one, mod-eq-of-lt, add-mul, div-one}
@@ -83,6 +83,14 @@ only-fields (w ∷ ws) s h e =
     (ap (λ (n : ℕ). toBe n (ofBe (take w s))) (sym (length-take-le w s (omega arith))) ∙ only-bytes (take w s) (bytes-take w s h))
     (only-fields ws (drop w s) (bytes-drop w s h) (simp length-drop (omega arith)))
     ∙ take-append-drop w s
+
+-- each number fits its width
+pub fields-fit : (ws s : List ℕ) → Bytes s → length s ≡ total ws → Fit ws (fieldsIn ws s)
+fields-fit [] s h e = tt
+fields-fit (w ∷ ws) s h e = (
+  subst (λ (n : ℕ). ofBe (take w s) < 256 ^ n) (length-take-le w s (omega arith)) (below (take w s) (bytes-take w s h)),
+  fields-fit ws (drop w s) (bytes-drop w s h) (simp length-drop (omega arith)),
+)
 
 -- ---- a byte, and a list by its elements
 

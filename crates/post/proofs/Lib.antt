@@ -24,3 +24,7 @@ pub mod RowsReceive
 pub mod Answering
 pub mod Lacking
 pub mod Unique
+pub mod Cut
+pub mod OwnTakes
+pub mod SoundMade
+pub mod Ranges

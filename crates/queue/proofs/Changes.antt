@@ -11,11 +11,12 @@ use lib.ListN.{length}
 use denote.Floats.{passes}
 use borrow.Author.Tests.{leb-false, eqb-false, not-false}
 use Rattle.laws.specs.Ladder.{refusal}
+use Rattle.laws.specs.Lists.{many}
 use Rattle.laws.proofs.Tests.{cond-both}
 use Rattle.laws.proofs.Ladders.{quiet}
-use Rattle.frame.specs.Message.{known, lastCounter}
+use Rattle.frame.specs.Message.{counted, known, lastCounter, by}
 use Rattle.frame.specs.Frame.{fieldsOf, formRows}
-use Rattle.queue.specs.Queue.{Start, Queue, clock, last, phase}
+use Rattle.queue.specs.Queue.{Start, Queue, clock, last, waiting, phase}
 use Rattle.queue.specs.Calls.{Call, take-call, return-call, receive-call, value-call, missing-call, Answer, say, acks, accept}
 use Rattle.queue.specs.Calls.{takeRows, returnRows, fromRows, receiveRows, send, received, onQueue, queueAfter}
 use Rattle.queue.proofs.Good.{New, Good, good-say, good-accept}
@@ -31,13 +32,30 @@ neither : (a b c : Bool) → T a → a && (b || c) ≡ false → (b ≡ false) �
 neither true b c t e = or-eq-false-eq-eq-false-and-eq-false b c .0 e
 neither false b c t e = absurd t
 
+second : (a b : Bool) → T a → a && b ≡ false → b ≡ false
+second true b t e = e
+second false b t e = absurd t
+
 passed : (t : Bool) → not t ≡ false → T t
 passed t e = passes t (not-false t e)
 
+-- what a call that no row refuses has passed
 module _ (st : Start) (q : Queue) where
-  not-refused : (s : List ℕ) (n : ℕ) → refusal (receiveRows st q s n) ≡ 0 → New st q (fieldsOf s .message)
+  pub take-passed : (n : ℕ) → refusal (takeRows st q n) ≡ 0 → T (eqb (phase st q) 0) × (clock q < lastCounter)
+  unfolding takeRows
+  take-passed n e =
+      let r = quiet (takeRows st q n) tt e in
+      (passed (eqb (phase st q) 0) (r .1 .0), leb-false lastCounter (clock q) (r .1 .1 .0))
+
+  pub return-passed : (n : ℕ) → refusal (returnRows st q n) ≡ 0 → T (eqb (phase st q) 3) × (clock q < lastCounter)
+  unfolding returnRows
+  return-passed n e =
+      let r = quiet (returnRows st q n) tt e in
+      (passed (eqb (phase st q) 3) (r .1 .0), leb-false lastCounter (clock q) (r .1 .1 .0))
+
+  pub receive-passed : (s : List ℕ) (n : ℕ) → refusal (receiveRows st q s n) ≡ 0 → New st q (fieldsOf s .message)
   unfolding receiveRows formRows fromRows acks
-  not-refused s n e =
+  receive-passed s n e =
       let m = fieldsOf s .message in
       let r = quiet (receiveRows st q s n) tt e .1 .1 .1 .1 .1 in
       let from = neither true (eqb (m .sender) (st .own)) (leb (st .posts) (m .sender)) tt (r .1 .0) in
@@ -49,26 +67,25 @@ module _ (st : Start) (q : Queue) where
         room = λ y.
             let c = neither (acks m) (leb lastCounter (clock q)) (leb lastCounter (m .counter)) y (r .1 .1 .1 .1 .0) in
             (leb-false lastCounter (clock q) (c .0), leb-false lastCounter (m .counter) (c .1));
+        few = λ y. leb-false 4 (many (by (m .sender)) (waiting st q)) (second (counted m) _ y (r .1 .1 .1 .1 .1 .0));
       }
 
   pub change : (c : Call) → Change st q c (onQueue st q c .next)
-  unfolding onQueue send received takeRows returnRows
+  unfolding onQueue send received
   change (take-call lent) =
       let rows = takeRows st q (length lent) in
-      cond-both {A = Answer Queue} (λ a. Change st q (take-call lent) (a .next)) (eqb (refusal rows) 0) _ _ (λ y.
-      let r = quiet rows tt (eqb→eq (refusal rows) 0 y) in
-      took (passed (eqb (phase st q) 0) (r .1 .0)) (leb-false lastCounter (clock q) (r .1 .1 .0)))
+      cond-both {A = Answer Queue} (λ a. Change st q (take-call lent) (a .next)) (eqb (refusal rows) 0) _ _
+      (λ y. let h = take-passed (length lent) (eqb→eq (refusal rows) 0 y) in took (h .0) (h .1))
       (λ n. unchanged)
   change (return-call lent) =
       let rows = returnRows st q (length lent) in
-      cond-both {A = Answer Queue} (λ a. Change st q (return-call lent) (a .next)) (eqb (refusal rows) 0) _ _ (λ y.
-      let r = quiet rows tt (eqb→eq (refusal rows) 0 y) in
-      gave-back (passed (eqb (phase st q) 3) (r .1 .0)) (leb-false lastCounter (clock q) (r .1 .1 .0)))
+      cond-both {A = Answer Queue} (λ a. Change st q (return-call lent) (a .next)) (eqb (refusal rows) 0) _ _
+      (λ y. let h = return-passed (length lent) (eqb→eq (refusal rows) 0 y) in gave-back (h .0) (h .1))
       (λ n. unchanged)
   change (receive-call s lent) =
       let rows = receiveRows st q s (length lent) in
       cond-both {A = Answer Queue} (λ a. Change st q (receive-call s lent) (a .next)) (eqb (refusal rows) 0) _ _
-      (λ y. accepted (not-refused s (length lent) (eqb→eq (refusal rows) 0 y)))
+      (λ y. accepted (receive-passed s (length lent) (eqb→eq (refusal rows) 0 y)))
       (λ n. unchanged)
   change value-call = unchanged
   change missing-call = unchanged

@@ -6,13 +6,13 @@ use mathlib.Core.List.{[]}
 use Prim.Native.Nat.{ℕ, _≤_, _<_}
 use native.Mathlib.Omega.{arith}
 use lib.Dec.{T, T-not, eqb-refl}
-use Rattle.laws.specs.Lists.{In, keep, Rising, put}
+use Rattle.laws.specs.Lists.{In, keep, many, Rising, put}
 use Rattle.laws.proofs.Tests.{cond-both}
 use Rattle.laws.proofs.ListLaws.{in-keep}
 use Rattle.laws.proofs.RisingLaws.{in-put, put-in, rising-put, le-top}
 use Rattle.frame.specs.declared.Message.{Message}
 use Rattle.frame.specs.Message.{counted, known, lastCounter, stamp, by}
-use Rattle.queue.specs.Queue.{Start, Queue, clock, last}
+use Rattle.queue.specs.Queue.{Start, Queue, clock, last, waiting}
 use Rattle.queue.specs.Calls.{saying, say, acks, accept}
 
 -- a post of a feeder, which has at most 16
@@ -40,12 +40,14 @@ pub record Good (st : Start) (q : Queue) : Type 0 where
   pub sorted : Sorted st q
   pub topped : (m : Message) → In m q → T (counted m) → (m .sender ≡ st .own → ⊥) → Topped st q m
 
--- a proper message of another post, with a counter above that post's last, and counters left for its acknowledgment
+-- a proper message of another post, with a counter above that post's last, and of a take or return counters left for its acknowledgment and
+-- fewer than 4 of its sender waiting
 pub record New (st : Start) (q : Queue) (m : Message) : Type 0 where
   pub other : m .sender ≡ st .own → ⊥
   pub proper : Proper st m
   pub above : last (m .sender) q < m .counter
   pub room : T (acks m) → (clock q < lastCounter) × (m .counter < lastCounter)
+  pub few : T (counted m) → many (by (m .sender)) (waiting st q) < 4
 
 pub good-empty : (st : Start) → Fit st → Good st []
 good-empty st fit = record { sorted = record { fit = fit; rising = tt; proper = λ m i. absurd i }; topped = λ m i. absurd i }

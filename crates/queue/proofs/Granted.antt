@@ -75,7 +75,7 @@ module _ (st : Start) (q : Queue) where
       final-most stamp (keep (ownCounted st) q) (before st) m (rising-keep stamp (ownCounted st) q r)
       (in-keep (ownCounted st) m q i (yes-and (by (st .own) m) _ o c))
 
-  latest-in : T (isTake (latest st q)) → In (latest st q) q × T (by (st .own) (latest st q))
+  pub latest-in : T (isTake (latest st q)) → In (latest st q) q × T (by (st .own) (latest st q))
   unfolding latest
   latest-in t =
       ⊎-elim

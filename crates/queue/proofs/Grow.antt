@@ -68,7 +68,7 @@ later-trans st q r t k l = record {
   above = λ m i. ⊎-elim (k .above m) (λ h. inr (λ b j. h b (begins-in b (settled st q) (settled st r) (settled-grows st q r k) j))) (l .above m i);
 }
 
-later-say : (st : Start) (q : Queue) → Sorted st q → (kind : ℕ) → T (known kind) → Later st q (say st kind q)
+pub later-say : (st : Start) (q : Queue) → Sorted st q → (kind : ℕ) → T (known kind) → Later st q (say st kind q)
 unfolding say
 later-say st q g kind k = record {
   before = g .rising;
@@ -98,7 +98,7 @@ module _ (st : Start) (q : Queue) (g : Sorted st q) where
         (in-put stamp m x q i);
   }
 
-  later-accept : (m : Message) → New st q m → Later st q (accept st q m)
+  pub later-accept : (m : Message) → New st q m → Later st q (accept st q m)
   unfolding accept
   later-accept m w =
       let p = put stamp m q in

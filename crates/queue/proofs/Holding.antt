@@ -78,7 +78,7 @@ turned st c q q′ g (accepted {s = s} {lent = lent} w) =
     latest-holding st q′ (in-cast (grants st q′) (sym (latest-accepted st q m (w .other)))
     (grants-grow st q q′ l (latest st q) (holding-latest st q y))))
 
-marks-one : (st : Start) (q q′ : Queue) → length (markList st q q′) ≡ one? (grantCame st q q′)
+pub marks-one : (st : Start) (q q′ : Queue) → length (markList st q q′) ≡ one? (grantCame st q q′)
 marks-one st q q′ = go (grantCame st q q′)
   where
     go : (b : Bool) → length (cond b (latest st q′ ∷ []) []) ≡ one? b

@@ -11,3 +11,10 @@ pub mod Marks
 pub mod Holding
 pub mod Runs
 pub mod Demand3
+pub mod Phases
+pub mod Waiting
+pub mod Clocks
+pub mod Settling
+pub mod Fitting
+pub mod Totals
+pub mod Grants

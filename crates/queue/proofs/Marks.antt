@@ -162,7 +162,7 @@ told-or-refused st q rows lent a e =
     (λ y. e)
     (λ n. none (holds st q))
 
-mark-came : (st : Start) (q : Queue) (c : Call) → marked (onQueue st q c .reply) ≡ grantCame st q (onQueue st q c .next)
+pub mark-came : (st : Start) (q : Queue) (c : Call) → marked (onQueue st q c .reply) ≡ grantCame st q (onQueue st q c .next)
 unfolding onQueue send received grantCame
 mark-came st q (take-call lent) = told-or-refused st q (takeRows st q (length lent)) lent _ refl
 mark-came st q (return-call lent) = told-or-refused st q (returnRows st q (length lent)) lent _ refl

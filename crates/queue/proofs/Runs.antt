@@ -150,7 +150,7 @@ module _ (L : Line) (s : Feeder) (w : Ran L s) (p : ℕ) (l : p < L .posts) wher
       ran-with q (next c q b d (kept-change st c (s p) q d (w .kept p l)))
 
 module _ (L : Line) (f : L .feeder ≤ 255) (s : Feeder) (w : Ran L s) where
-  in-width : (p : ℕ) → p < L .posts → (m : Message) → In m (s p) → InWidth (L .feeder) m
+  pub in-width : (p : ℕ) → p < L .posts → (m : Message) → In m (s p) → InWidth (L .feeder) m
   in-width p l m i =
       let g = w .kept p l .good .sorted in
       let t = g .proper m i in
@@ -168,7 +168,7 @@ module _ (L : Line) (f : L .feeder ≤ 255) (s : Feeder) (w : Ran L s) where
       let back = ap (λ (x : Fields). x .message) (frame-fields (L .feeder) m (in-width p lp m i)) in
       ran-call L s w q lq (receive-call (frame (L .feeder) m) buffer) (subst (Follows L s q) (sym back) (p, lp, ms, e))
 
-  ran-act : (a : Act) → Ran L (after L s (made L s a))
+  pub ran-act : (a : Act) → Ran L (after L s (made L s a))
   unfolding made pending
   ran-act (takeAt p) =
       cond-both (λ x. Ran L (after L s x)) (ltb p (L .posts)) (at-post p (take-call buffer)) none
@@ -188,7 +188,7 @@ module _ (L : Line) (f : L .feeder ≤ 255) (s : Feeder) (w : Ran L s) where
       ran-offer p q lp lq (pending s p q) (begins-drop (had s p q) (sent s p) b))
       (λ n. w)
 
-ran-fresh : (L : Line) → L .posts ≤ 16 → Ran L fresh
+pub ran-fresh : (L : Line) → L .posts ≤ 16 → Ran L fresh
 unfolding keep
 ran-fresh L few = record {
   kept = λ p l. kept-empty (start L p) (record { few = few; mine = l });

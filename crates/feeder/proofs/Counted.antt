@@ -1,0 +1,169 @@
+-- Once a record with what is new has settled, it is the record of the later queue. Assumes nothing.
+use mathlib.Core.Path.{_≡_, refl, sym, ap, ap₂, _∙_, subst}
+use mathlib.Core.Bool.{Bool, true, false, not, cond}
+use mathlib.Core.List.{List}
+use Prim.Native.Nat.{ℕ, _+_, _≤_, _<_}
+use native.Mathlib.Omega.{arith}
+use lib.Dec.{T, leb, eqb, T-not, not-T, leb→le, le→leb, eqb→eq}
+use lib.ListN.{length}
+use lib.Ieee.Bits.{is-true, is-false}
+use Rattle.laws.specs.Lists.{In, keep, many}
+use Rattle.laws.proofs.Tests.{test, same-test}
+use Rattle.laws.proofs.ListLaws.{in-keep, keep-in, keep-cong}
+use Rattle.laws.proofs.RisingLaws.{rising-keep}
+use Rattle.frame.specs.declared.Message.{Message}
+use Rattle.frame.specs.Message.{isTake, isReturn, lastCounter, stampOf, stamp}
+use Rattle.queue.specs.Queue.{Start, Queue, clock, last, lastStamp, heard, settled, waiting, number, room, latest, phase, order}
+use Rattle.queue.proofs.Good.{Sorted}
+use Rattle.queue.proofs.Grow.{heard-grows, number-stays, room-grows}
+use Rattle.queue.proofs.Granted.{in-takes}
+use Rattle.queue.proofs.Phases.{phase-idle, order-idle, phase-asked, order-asked, phase-numbered, order-numbered, number-some}
+use Rattle.queue.proofs.Settling.{Between, waits-on, count-after, number-after}
+use Rattle.post.specs.declared.Post.{Post}
+use Rattle.post.specs.Record.{waitingOf, floor, inSlots, remade}
+use Rattle.post.specs.Settle.{upTo, ownNumber, orderAfter, phaseAfter, settle}
+use Rattle.post.proofs.Cut.{under, leftOf, upTo-keep, left-keep}
+use Rattle.post.proofs.OwnTakes.{Only, ownNumber-none, number-of-own}
+use Rattle.feeder.specs.Image.{listFrom, image}
+use Rattle.feeder.proofs.Listed.{listFrom-at}
+use Rattle.feeder.proofs.ImageParts.{floorOf, least-cong, in-slots, heard-floor}
+
+-- what q counted, with the clock and the last counters of a later queue and with v in the slots
+abbrev pub unsettled : Start → Queue → Queue → List Message → ℕ → ℕ → Post
+unsettled st q q′ v phase order = remade (image st q) (clock q′) (listFrom 0 16 (λ r. last r q′)) v phase order
+
+-- the own take may stand in three ways: there is none, it is among v and no other is, or q has numbered it
+pub data Stand (st : Start) (q q′ : Queue) (v : List Message) (phase order : ℕ) : Type 0 where
+  idle : phase ≡ 0 → order ≡ 0 → T (not (isTake (latest st q′))) → Stand st q q′ v phase order
+  asked : phase ≡ 1 → T (isTake (latest st q′)) → Only (st .own) (latest st q′) v → Stand st q q′ v phase order
+  numbered : phase ≡ cond (leb (number st q (latest st q′)) (room st q)) 3 2 → order ≡ number st q (latest st q′) → T (isTake (latest st q′))
+      → In (latest st q′) q → T (heard st q (latest st q′)) → Stand st q q′ v phase order
+
+-- a numbered take keeps its number, and gets the phase of one
+keeps-order : (c : Bool) (x o : ℕ) → cond (eqb (cond c 3 2) 1) x o ≡ o
+keeps-order true x o = refl
+keeps-order false x o = refl
+
+has-number : (n most : ℕ) → 0 < n → _≡_ {A = ℕ} (cond (eqb n 0) 1 (cond (leb n most) 3 2)) (cond (leb n most) 3 2)
+has-number n most h = rw (is-false (eqb n 0) (not-T (eqb n 0) (λ y. let e = eqb→eq n 0 y in omega arith)))
+
+module _ (st : Start) (q q′ : Queue) (v : List Message) (b : Between st q q′ v) where
+  abbrev gone : List Message
+  gone = keep (heard st q′) v
+
+  abbrev own-latest : Message
+  own-latest = latest st q′
+
+  still-only : Only (st .own) own-latest v → T (heard st q′ own-latest) → Only (st .own) own-latest gone
+  still-only o h = record {
+    here = in-keep (heard st q′) own-latest v (o .here) h;
+    own-take = o .own-take;
+    alone = λ a i. o .alone a (keep-in (heard st q′) a v i .0);
+  }
+
+  order-after : (ph o : ℕ) → Stand st q q′ v ph o → cond (eqb ph 1) (ownNumber (st .own) (many isTake (settled st q)) gone) o ≡ order st q′
+  order-after ph o (idle p e n) = rw p (e ∙ sym (order-idle st q′ n))
+  order-after ph o (asked p t only) =
+      let k = many isTake (settled st q) in
+      rw p (test (heard st q′ own-latest)
+      (λ h.
+      let here = still-only only h in
+      number-of-own (st .own) k gone own-latest (rising-keep stamp (heard st q′) v (b .rising)) here
+      ∙ sym (number-after st q q′ v b own-latest (in-keep isTake own-latest gone (here .here) t))
+      ∙ sym (order-numbered st q′ t h))
+      (λ n.
+      ownNumber-none (st .own) k gone (λ a i y.
+      let z = keep-in (heard st q′) a v i in
+      T-not (heard st q′ own-latest) n (subst (λ (m : Message). T (heard st q′ m)) (only .alone a (z .0) y) (z .1)))
+      ∙ sym (order-asked st q′ t n)))
+  order-after ph o (numbered p e t i h) =
+      rw p (keeps-order (leb (number st q own-latest) (room st q)) _ o
+      ∙ e
+      ∙ sym (number-stays st q q′ (b .later) own-latest (in-takes st q own-latest i t h))
+      ∙ sym (order-numbered st q′ t (heard-grows st q q′ (b .later) own-latest h)))
+
+  once-numbered : T (isTake own-latest) → T (heard st q′ own-latest)
+      → cond (eqb (order st q′) 0) 1 (cond (leb (order st q′) (room st q′)) 3 2) ≡ phase st q′
+  once-numbered t h =
+      rw (order-numbered st q′ t h) (has-number (number st q′ own-latest) (room st q′) (number-some st q′ t h) ∙ sym (phase-numbered st q′ t h))
+
+  phase-after : (ph o : ℕ) → Stand st q q′ v ph o → phaseAfter ph (order st q′) (room st q′) ≡ phase st q′
+  unfolding phaseAfter
+  phase-after ph o (idle p e n) = rw p (sym (phase-idle st q′ n))
+  phase-after ph o (asked p t only) =
+      rw p (test (heard st q′ own-latest) (once-numbered t) (λ n. rw (order-asked st q′ t n) (sym (phase-asked st q′ t n))))
+  phase-after ph o (numbered p e t i h) =
+      let three : Bool → ℕ = λ c. cond c 3 2 in
+      let n = number st q own-latest in
+      let n′ = number st q′ own-latest in
+      let h′ = heard-grows st q q′ (b .later) own-latest h in
+      test (leb n (room st q))
+      (λ y.
+      let a = number-stays st q q′ (b .later) own-latest (in-takes st q own-latest i t h) in
+      let c = room-grows st q q′ (b .later) in
+      let d = leb→le n (room st q) y in
+      rw (p ∙ ap three (is-true (leb n (room st q)) y))
+      (sym (phase-numbered st q′ t h′ ∙ ap three (is-true (leb n′ (room st q′)) (le→leb n′ (room st q′) (omega arith))))))
+      (λ x. rw (p ∙ ap three (is-false (leb n (room st q)) x)) (once-numbered t h′))
+
+  -- ---- the record that is to be settled: what leaves its slots, and what is left
+
+  module _ (g : Sorted st q′) (wide : clock q′ ≤ lastCounter) (ph o : ℕ) where
+    abbrev before : Post
+    before = unsettled st q q′ v ph o
+
+    abbrev counts : List Message
+    counts = upTo (floor before) (waitingOf before)
+
+    floor-is : floor before ≡ floorOf st q′
+    unfolding floor remade image
+    floor-is =
+        least-cong (st .posts) (st .own) _ (λ r. lastStamp r q′) (λ r l.
+        ap (λ (c : ℕ). stampOf c r) (listFrom-at 16 (λ x. last x q′) r (let z = g .fit .few in omega arith)))
+
+    waits-are : waitingOf before ≡ v
+    unfolding remade
+    waits-are = in-slots v
+
+    under-heard : (m : Message) → In m v → under (floorOf st q′) m ≡ heard st q′ m
+    under-heard m i =
+        let k = heard-floor st q′ g wide m (b .only m i .0) in
+        let f = floorOf st q′ in
+        same-test (leb (stamp m) f) (heard st q′ m) (λ y. k .1 (leb→le (stamp m) f y)) (λ y. le→leb (stamp m) f (k .0 y))
+
+    gone-is : counts ≡ gone
+    gone-is = ap₂ upTo floor-is waits-are ∙ upTo-keep (floorOf st q′) v (b .rising) ∙ keep-cong (under (floorOf st q′)) (heard st q′) v under-heard
+
+    left-is : leftOf (floor before) (waitingOf before) ≡ waiting st q′
+    left-is =
+        ap₂ leftOf floor-is waits-are
+        ∙ left-keep (floorOf st q′) v (b .rising)
+        ∙ keep-cong (λ m. not (under (floorOf st q′) m)) (λ m. not (heard st q′ m)) v (λ m i. ap not (under-heard m i))
+        ∙ sym (waits-on st q q′ v b)
+
+    count-is : (f : Message → Bool) → many f (settled st q) + many f counts ≡ many f (settled st q′)
+    count-is f = ap (λ (l : List Message). many f (settled st q) + many f l) gone-is ∙ sym (count-after st q q′ v b f)
+
+    pub settles-to-image : Stand st q q′ v ph o → settle before ≡ image st q′
+    unfolding settle orderAfter remade image room
+    settles-to-image s = λ i. record {
+      posts = st .posts;
+      own = st .own;
+      feeder = st .feeder;
+      places = st .places;
+      clock = clock q′;
+      last = listFrom 0 16 (λ r. last r q′);
+      waits = length (left-is i);
+      slots = inSlots (left-is i);
+      takes = count-is isTake i;
+      returns = count-is isReturn i;
+      phase = phase-is i;
+      order = order-is i;
+    }
+      where
+        order-is : orderAfter before counts ≡ order st q′
+        order-is = ap (λ (l : List Message). cond (eqb ph 1) (ownNumber (st .own) (many isTake (settled st q)) l) o) gone-is ∙ order-after ph o s
+
+        phase-is : phaseAfter ph (orderAfter before counts)
+            (st .places + (many isReturn (settled st q) + many isReturn counts)) ≡ phase st q′
+        phase-is = ap₂ (λ (x n : ℕ). phaseAfter ph x (st .places + n)) order-is (count-is isReturn) ∙ phase-after ph o s

@@ -1,0 +1,67 @@
+-- Demand 2: the short record answers as the full queue does. The proofs of `specs/Demand2`. Assumes nothing.
+use mathlib.Core.Path.{_≡_, refl, ap, ap₂, _∙_}
+use mathlib.Core.List.{List, [], _∷_}
+use native.Mathlib.Omega.{arith}
+use lib.Dec.{T}
+use Rattle.frame.proofs.FrameFields.{counter-fits}
+use Rattle.queue.specs.Queue.{Start, Queue}
+use Rattle.queue.specs.Calls.{Call, take-call, return-call, receive-call, value-call, missing-call, onQueue, queueAfter, replies}
+use Rattle.queue.proofs.Changes.{change}
+use Rattle.queue.proofs.Fitting.{Fitting, CounterFits, fitting-change}
+use Rattle.post.specs.declared.Post.{Post}
+use Rattle.post.specs.Sound.{sound}
+use Rattle.post.proofs.Ranges.{range-is}
+use Rattle.feeder.specs.Image.{image}
+use Rattle.feeder.specs.OnRecord.{onRecord, recordAfter, recordReplies}
+use Rattle.feeder.specs.Demand2.{Accepted, FramesAreBytes, Demand2, SameRecord, SideBySide, RefusedStart}
+use Rattle.feeder.proofs.ImageSound.{image-sound}
+use Rattle.feeder.proofs.Answers.{Same, take-same, return-same, receive-same}
+use Rattle.feeder.proofs.Inquiries.{value-same, missing-same}
+use Rattle.feeder.proofs.Starts.{started-image, started-fits, refuses}
+
+-- one call on the record of a queue answers as on the queue, and leaves the record of the queue after it
+by-call : (st : Start) (q : Queue) → Fitting st q → T (sound (image st q)) → (c : Call) → CounterFits c
+    → Same st (onRecord (image st q) c) (onQueue st q c)
+by-call st q k s (take-call lent) f = take-same st q k s lent
+by-call st q k s (return-call lent) f = return-same st q k s lent
+by-call st q k s (receive-call frame lent) f = receive-same st q k s frame lent f
+by-call st q k s value-call f = value-same st q k s
+by-call st q k s missing-call f = missing-same st q k s
+
+pub one-call : (st : Start) → Accepted st → (q : Queue) → Fitting st q → (c : Call) → CounterFits c
+    → Same st (onRecord (image st q) c) (onQueue st q c)
+one-call st a q k = by-call st q k (image-sound st q k (range-is (st .posts) (st .own) (st .feeder) (st .places) a))
+
+-- the counter of a frame of bytes fits
+counters-fit : (c : Call) (calls : List Call) → FramesAreBytes (c ∷ calls) → CounterFits c × FramesAreBytes calls
+counters-fit (take-call lent) calls b = (tt, b)
+counters-fit (return-call lent) calls b = (tt, b)
+counters-fit (receive-call s lent) calls b = let h = counter-fits s (b .0) in (omega arith, b .1)
+counters-fit value-call calls b = (tt, b)
+counters-fit missing-call calls b = (tt, b)
+
+any-calls : (st : Start) → Accepted st → (calls : List Call) → FramesAreBytes calls → (q : Queue) → Fitting st q
+    → (recordReplies (image st q) calls ≡ replies st q calls) × (recordAfter (image st q) calls ≡ image st (queueAfter st q calls))
+unfolding recordReplies replies recordAfter queueAfter
+any-calls st a [] b q k = (refl, refl)
+any-calls st a (c ∷ calls) b q k =
+    let f = counters-fit c calls b in
+    let s = one-call st a q k c (f .0) in
+    let q′ = onQueue st q c .next in
+    let r = any-calls st a calls (f .1) q′ (fitting-change st c q q′ (f .0) (change st q c) k) in (
+      ap₂ _∷_ (s .reply) (ap (λ (p : Post). recordReplies p calls) (s .next) ∙ r .0),
+      ap (λ (p : Post). recordAfter p calls) (s .next) ∙ r .1,
+    )
+
+pub demand2 : Demand2
+demand2 st a calls b = ap (λ (p : Post). recordReplies p calls) (started-image st a) ∙ any-calls st a calls b [] (started-fits st a) .0
+
+pub same-record : SameRecord
+same-record st a calls b = ap (λ (p : Post). recordAfter p calls) (started-image st a) ∙ any-calls st a calls b [] (started-fits st a) .1
+
+pub side-by-side : SideBySide
+unfolding image
+side-by-side st a calls b = let e = same-record st a calls b in (ap (λ (p : Post). p .order) e, ap (λ (p : Post). p .phase) e)
+
+pub refused-start : RefusedStart
+refused-start = refuses

@@ -1,0 +1,68 @@
+-- The record of a queue, part by part: last counters, what waits, the floor. And what is settled is what is at or below the floor.
+-- Assumes nothing.
+use mathlib.Core.Path.{_≡_, refl, sym, ap, _∙_}
+use mathlib.Core.Logic.{_↔_}
+use mathlib.Core.List.{List}
+use Prim.Native.Nat.{ℕ, zero, suc, _-_, _≤_, _<_}
+use native.Mathlib.Omega.{arith}
+use lib.Dec.{T, ltb, ltb→lt, nltb→le}
+use lib.ListN.{length, take, replicate, List·getD-eq-default}
+use lib.Seq.{take-at}
+use Rattle.laws.specs.Lists.{In}
+use Rattle.laws.proofs.Tests.{test}
+use Rattle.frame.specs.declared.Message.{Message}
+use Rattle.frame.specs.Message.{blank, lastCounter, stampOf, stamp}
+use Rattle.queue.specs.Queue.{Start, Queue, clock, last, lastStamp, heard, waiting}
+use Rattle.queue.proofs.Good.{Sorted, le-clock}
+use Rattle.queue.proofs.Heard.{heard-at, at-heard}
+use Rattle.queue.proofs.Clocks.{last-none}
+use Rattle.post.specs.Record.{lastOf, waitingOf, leastTo, floor, inSlots}
+use Rattle.post.proofs.Cut.{least-le, le-least}
+use Rattle.feeder.specs.Image.{listFrom, image}
+use Rattle.feeder.proofs.Listed.{length-listFrom, listFrom-at}
+
+-- the least last stamp of the other posts
+abbrev pub floorOf : Start → Queue → ℕ
+floorOf st q = leastTo (st .posts) (st .own) (λ r. lastStamp r q)
+
+-- it depends on the last stamps alone
+pub least-cong : (n own : ℕ) (f g : ℕ → ℕ) → ((r : ℕ) → r < n → f r ≡ g r) → leastTo n own f ≡ leastTo n own g
+unfolding leastTo
+least-cong zero own f g h = refl
+least-cong (suc n) own f g h = rw (h n (omega arith), least-cong n own f g (λ r l. h r (omega arith)))
+
+-- messages in slots come out again
+pub in-slots : (ms : List Message) → take (length ms) (inSlots ms) ≡ ms
+in-slots ms = take-at ms (replicate (62 - length ms) blank) (length ms) refl
+
+module _ (st : Start) (q : Queue) where
+  pub image-waiting : waitingOf (image st q) ≡ waiting st q
+  unfolding image
+  image-waiting = in-slots (waiting st q)
+
+  module _ (g : Sorted st q) where
+    pub image-last : (r : ℕ) → lastOf (image st q) r ≡ last r q
+    unfolding image
+    image-last r =
+        let lasts = listFrom 0 16 (λ x. last x q) in
+        test (ltb r 16)
+        (λ y. listFrom-at 16 (λ x. last x q) r (ltb→lt r 16 y))
+        (λ n.
+        let h = nltb→le r 16 n in
+        let e = length-listFrom 0 16 (λ x. last x q) in
+        let f = g .fit .few in
+        List·getD-eq-default lasts 0 (omega arith) ∙ sym (last-none st q g r (omega arith)))
+
+    pub image-floor : floor (image st q) ≡ floorOf st q
+    unfolding floor image
+    image-floor = least-cong (st .posts) (st .own) _ (λ r. lastStamp r q) (λ r l. ap (λ (x : ℕ). stampOf x r) (image-last r))
+
+    -- settled is at or below the floor
+    pub heard-floor : clock q ≤ lastCounter → (m : Message) → In m q → T (heard st q m) ↔ (stamp m ≤ floorOf st q)
+    heard-floor w m i =
+        let a = le-clock q m i in
+        let b = g .proper m i .sender in
+        let c = g .fit .few in (
+          λ h. le-least (st .own) (λ r. lastStamp r q) (st .posts) (stamp m) (omega arith) (heard-at st q m h),
+          λ h. at-heard st q m (λ r l d. let e = least-le (st .own) (λ x. lastStamp x q) (st .posts) r l d in omega arith),
+        )

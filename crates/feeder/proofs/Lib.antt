@@ -1,0 +1,13 @@
+pub mod Listed
+pub mod ImageParts
+pub mod ImageSound
+pub mod Counted
+pub mod Steps
+pub mod Answers
+pub mod Inquiries
+pub mod Starts
+pub mod Demand2
+pub mod NightsHold
+pub mod Tells
+pub mod Boards
+pub mod RecordsAndBytes

@@ -1,0 +1,28 @@
+-- The nights P1 to P10 hold, over the short record and over the full queue: by computation. Assumes nothing.
+use mathlib.Core.Path.{refl}
+use Rattle.laws.specs.Lists.{keep, all, final, put, upto, top}
+use Rattle.laws.specs.Below.{allTo, sumTo}
+use Rattle.frame.specs.Frame.{frame, fieldsOf, formRows}
+use Rattle.queue.specs.Queue.{clock, last, heard, settled, waiting, room, latest, phase, order, value, lacks}
+use Rattle.queue.specs.Calls as queue
+use Rattle.post.specs.Record.{leastTo, floor, fresh, remade}
+use Rattle.post.specs.Sound.{inRange, absentSilent, clockAbove, fair, rises, noneAlone, isBlank, few, endKind, ownFits, ownFew, sumFits, orderFits}
+use Rattle.post.specs.Sound.{numberRules, slotRules, countRules, sound}
+use Rattle.post.specs.Settle.{upTo, ownNumber, orderAfter, phaseAfter, settle}
+use Rattle.post.specs.Calls as post
+use Rattle.feeder.specs.Image.{listFrom}
+use Rattle.feeder.specs.OnRecord.{onRecord, recordAfter, recordReplies}
+use Rattle.feeder.specs.Nights.{nights, onTheRecord, onTheQueue, NightsHold}
+
+pub nights-hold : NightsHold
+unfolding nights onTheRecord onTheQueue onRecord recordAfter recordReplies listFrom
+    keep all final put upto top allTo sumTo frame fieldsOf formRows
+    clock last heard settled waiting room latest phase order value lacks
+    queue.saying queue.say queue.acks queue.accept queue.grantCame queue.takeRows queue.returnRows queue.fromRows queue.receiveRows
+    queue.send queue.received queue.onQueue queue.queueAfter queue.replies
+    leastTo floor fresh remade upTo ownNumber orderAfter phaseAfter settle
+    inRange absentSilent clockAbove fair rises noneAlone isBlank few endKind ownFits ownFew sumFits orderFits
+    numberRules slotRules countRules sound
+    post.started post.spoken post.came post.noted post.takeRows post.returnRows post.senderRows post.turnRows post.receiveRows
+    post.sent post.sentBytes post.heardFrom post.heardBytes post.valued post.ownStamp post.lacks post.missed
+nights-hold = refl

@@ -1,0 +1,50 @@
+-- A start gives the record of the empty queue, or one that refuses every call where its numbers are out of range. Assumes nothing.
+use mathlib.Core.Path.{_≡_, refl, sym, ap, subst}
+use mathlib.Core.Bool.{Bool, cond}
+use mathlib.Core.List.{[]}
+use lib.Ieee.Bits.{is-true, is-false}
+use Rattle.laws.specs.Lists.{keep, final, top}
+use Rattle.queue.specs.Queue.{Start, clock, last, settled, waiting, latest, phase, order}
+use Rattle.queue.specs.Calls.{Call, take-call, return-call, receive-call, value-call, missing-call}
+use Rattle.queue.proofs.Fitting.{Fitting, fitting-empty}
+use Rattle.post.specs.declared.Post.{Post}
+use Rattle.post.specs.declared.Started.{Started}
+use Rattle.post.specs.Record.{fresh}
+use Rattle.post.specs.Sound.{inRange, numberRules, sound}
+use Rattle.post.specs.Calls as post
+use Rattle.post.proofs.Ranges.{range-is}
+use Rattle.feeder.specs.Image.{listFrom, image}
+use Rattle.feeder.specs.OnRecord.{onRecord, startedPost}
+use Rattle.feeder.specs.Demand2.{Accepted, refusedOne, RefusedStart}
+
+-- the record by whether the numbers are in range
+abbrev either : Start → Bool → Post
+either st b =
+    cond {A = Started} b
+    (record { post = fresh (st .posts) (st .own) (st .feeder) (st .places); number = 0 })
+    (record { post = fresh 0 0 0 0; number = 1 })
+    .post
+
+pub started-image : (st : Start) → Accepted st → startedPost st ≡ image st []
+unfolding post.started fresh image listFrom clock last settled waiting keep top phase order latest final
+started-image st a = ap (either st) (is-true (inRange (st .posts) (st .own) (st .feeder) (st .places)) a)
+
+pub started-fits : (st : Start) → Accepted st → Fitting st []
+started-fits st a =
+    let r = range-is (st .posts) (st .own) (st .feeder) (st .places) a in
+    fitting-empty st (record { few = r .posts-high; mine = r .own-low })
+
+zero-refuses : (c : Call) → (onRecord (fresh 0 0 0 0) c .reply ≡ refusedOne c) × (onRecord (fresh 0 0 0 0) c .next ≡ fresh 0 0 0 0)
+unfolding onRecord post.takeRows post.returnRows post.receiveRows post.sent post.sentBytes post.heardFrom post.heardBytes post.valued
+    post.missed sound numberRules inRange fresh
+zero-refuses (take-call lent) = (refl, refl)
+zero-refuses (return-call lent) = (refl, refl)
+zero-refuses (receive-call s lent) = (refl, refl)
+zero-refuses value-call = (refl, refl)
+zero-refuses missing-call = (refl, refl)
+
+pub refuses : RefusedStart
+unfolding post.started
+refuses st n c =
+    let e : startedPost st ≡ fresh 0 0 0 0 = ap (either st) (is-false (inRange (st .posts) (st .own) (st .feeder) (st .places)) n) in
+    subst (λ (p : Post). (onRecord p c .reply ≡ refusedOne c) × (onRecord p c .next ≡ p)) (sym e) (zero-refuses c)

@@ -1,0 +1,132 @@
+-- What a call's reply tells of the queue after it: what the post sent, and of whom it accepted a message. Assumes nothing.
+use mathlib.Core.Path.{_≡_, refl, sym, ap, _∙_}
+use mathlib.Core.Bool.{Bool, true, false, not, cond, _&&_, and-false}
+use mathlib.Core.List.{List, [], _∷_, _++_, append-nil, map}
+use Prim.Native.Nat.{ℕ, _+_}
+use native.Mathlib.Omega.{arith}
+use lib.Dec.{T, eqb, not-T, eqb→eq, eqb-refl}
+use lib.ListN.{length, take, drop, length-append}
+use lib.Seq.{take-at}
+use lib.Ieee.Bits.{is-true, is-false}
+use Rattle.laws.specs.Below.{one?}
+use Rattle.laws.specs.Ladder.{Row, refusal}
+use Rattle.laws.specs.Lists.{keep, put}
+use Rattle.laws.proofs.Tests.{test, cond-both, neqb→ne}
+use Rattle.laws.proofs.RisingLaws.{keep-put-no}
+use Rattle.frame.specs.declared.Message.{Message}
+use Rattle.frame.specs.Message.{stamp, by}
+use Rattle.frame.specs.Frame.{frame, fieldsOf}
+use Rattle.queue.specs.Queue.{Start, Queue}
+use Rattle.queue.specs.Calls.{Call, take-call, return-call, receive-call, value-call, missing-call, Answer, told, refused, saying, say, acks, accept, over}
+use Rattle.queue.specs.Calls.{takeRows, returnRows, receiveRows, send, received, onQueue}
+use Rattle.queue.proofs.Good.{Sorted, New, sorted-new}
+use Rattle.queue.proofs.Changes.{receive-passed}
+use Rattle.queue.proofs.Parts.{keep-say-last, others-said, others-accepted, sender-accepted}
+use Rattle.feeder.specs.Records.{written, done}
+
+-- the call brings a message of post r
+abbrev pub brings : Call → ℕ → Bool
+brings (take-call lent) r = false
+brings (return-call lent) r = false
+brings (receive-call s lent) r = eqb r (fieldsOf s .message .sender)
+brings value-call r = false
+brings missing-call r = false
+
+pub record Tells (st : Start) (q : Queue) (c : Call) (a : Answer Queue) : Type 0 where
+  -- what the post sent, and that it is what was written
+  pub said : List Message
+  pub sends : keep (by (st .own)) (a .next) ≡ keep (by (st .own)) q ++ said
+  pub writes : written (a .reply) ≡ map (frame (st .feeder)) said
+  -- what it has of another is one more where a message of that post was accepted
+  pub others : (r : ℕ) → (r ≡ st .own → ⊥) → length (keep (by r) (a .next)) ≡ length (keep (by r) q) + one? (brings c r && done (a .reply))
+
+one-frame : (f : ℕ) (m : Message) (rest : List ℕ) → take 12 (frame f m ++ rest) ≡ frame f m
+one-frame f m rest = take-at (frame f m) rest 12 (unfold frame in refl)
+
+module _ (st : Start) (q : Queue) where
+  refusal-tells : (c : Call) (n : ℕ) (lent : List ℕ) → T (not (eqb n 0)) → Tells st q c (refused q n lent)
+  refusal-tells c n lent z = record {
+    said = [];
+    sends = sym (append-nil (keep (by (st .own)) q));
+    writes = refl;
+    others = λ r d. rw (is-false (eqb n 0) z, and-false (brings c r)) (omega arith);
+  }
+
+  unchanged-tells : (c : Call) (a : Answer Queue) → a .next ≡ q → written (a .reply) ≡ [] → ((r : ℕ) → brings c r ≡ false) → Tells st q c a
+  unchanged-tells c a e w b = record {
+    said = [];
+    sends = ap (keep (by (st .own))) e ∙ sym (append-nil (keep (by (st .own)) q));
+    writes = w;
+    others = λ r d. let k = ap (λ (x : Queue). length (keep (by r) x)) e in rw (b r) (omega arith);
+  }
+
+  module _ (g : Sorted st q) where
+    said-tells : (c : Call) (kind : ℕ) (granted : Bool) (lent : List ℕ) → ((r : ℕ) → brings c r ≡ false)
+        → Tells st q c (record { next = say st kind q; reply = told 0 true granted (over st (saying st kind q) lent) })
+    said-tells c kind granted lent b = record {
+      said = saying st kind q ∷ [];
+      sends = keep-say-last st q (by (st .own)) g kind (unfold saying in eqb-refl (st .own));
+      writes = ap (λ (l : List ℕ). l ∷ []) (one-frame (st .feeder) (saying st kind q) (drop 12 lent));
+      others = λ r d. let k = ap length (others-said st q kind r d) in rw (b r) (omega arith);
+    }
+
+    sent-tells : (c : Call) (kind : ℕ) (rows : List Row) (lent : List ℕ) → ((r : ℕ) → brings c r ≡ false) → Tells st q c (send st q kind rows lent)
+    unfolding send
+    sent-tells c kind rows lent b =
+        cond-both {A = Answer Queue} (Tells st q c) (eqb (refusal rows) 0) _ _
+        (λ y. said-tells c kind _ lent b)
+        (λ n. refusal-tells c (refusal rows) lent n)
+
+    module _ (s lent : List ℕ) (granted : Bool) (w : New st q (fieldsOf s .message)) where
+      abbrev m : Message
+      m = fieldsOf s .message
+
+      abbrev p : Queue
+      p = put stamp m q
+
+      -- of its own the acknowledgment, if there is one
+      own-after : keep (by (st .own)) (accept st q m) ≡ keep (by (st .own)) q ++ cond (acks m) (saying st 3 p ∷ []) []
+      unfolding accept
+      own-after =
+          let e = keep-put-no stamp (by (st .own)) m q (not-T (by (st .own) m) (λ y. w .other (eqb→eq (m .sender) (st .own) y))) in
+          go (acks m) e
+        where
+          go : (b : Bool) → keep (by (st .own)) p ≡ keep (by (st .own)) q
+              → keep (by (st .own)) (cond b (say st 3 p) p) ≡ keep (by (st .own)) q ++ cond b (saying st 3 p ∷ []) []
+          go true e =
+              keep-say-last st p (by (st .own)) (sorted-new st q g m w) 3 (unfold saying in eqb-refl (st .own))
+              ∙ ap (λ (l : List Message). l ++ (saying st 3 p ∷ [])) e
+          go false e = e ∙ sym (append-nil (keep (by (st .own)) q))
+
+      accepted-tells : Tells st q (receive-call s lent)
+          (record { next = accept st q m; reply = told 0 (acks m) granted (cond (acks m) (over st (saying st 3 p) lent) lent) })
+      accepted-tells = record {
+        said = cond (acks m) (saying st 3 p ∷ []) [];
+        sends = own-after;
+        writes = go (acks m);
+        others = λ r d.
+            test (eqb r (m .sender))
+            (λ y.
+            let e = eqb→eq r (m .sender) y in
+            let k = ap length (sender-accepted st q g m w) in
+            let n = length-append (keep (by (m .sender)) q) (m ∷ []) in
+            rw (is-true (eqb r (m .sender)) y) (rw e (omega arith)))
+            (λ n. let k = ap length (others-accepted st q r m d (neqb→ne r (m .sender) n)) in rw (is-false (eqb r (m .sender)) n) (omega arith));
+      }
+        where
+          go : (b : Bool) → written (told 0 b granted (cond b (over st (saying st 3 p) lent) lent))
+              ≡ map (frame (st .feeder)) (cond b (saying st 3 p ∷ []) [])
+          go true = ap (λ (l : List ℕ). l ∷ []) (one-frame (st .feeder) (saying st 3 p) (drop 12 lent))
+          go false = refl
+
+    pub tells : (c : Call) → Tells st q c (onQueue st q c)
+    unfolding onQueue received
+    tells (take-call lent) = sent-tells (take-call lent) 1 (takeRows st q (length lent)) lent (λ r. refl)
+    tells (return-call lent) = sent-tells (return-call lent) 2 (returnRows st q (length lent)) lent (λ r. refl)
+    tells (receive-call s lent) =
+        let rows = receiveRows st q s (length lent) in
+        cond-both {A = Answer Queue} (Tells st q (receive-call s lent)) (eqb (refusal rows) 0) _ _
+        (λ y. accepted-tells s lent _ (receive-passed st q s (length lent) (eqb→eq (refusal rows) 0 y)))
+        (λ n. refusal-tells (receive-call s lent) (refusal rows) lent n)
+    tells value-call = unchanged-tells value-call (onQueue st q value-call) refl refl (λ r. refl)
+    tells missing-call = unchanged-tells missing-call (onQueue st q missing-call) refl refl (λ r. refl)

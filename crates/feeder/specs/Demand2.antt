@@ -1,0 +1,54 @@
+-- Demand 2: the short record answers as the full queue does. What is stated; `proofs/` proves it.
+use mathlib.Core.Path.{_≡_}
+use mathlib.Core.Bool.{false, not}
+use mathlib.Core.List.{List, [], _∷_}
+use Prim.Native.Nat.{ℕ}
+use lib.Dec.{T}
+use lib.IntN.{pos}
+use Rattle.laws.specs.Big.{Bytes}
+use Rattle.queue.specs.Queue.{Start, phase, order}
+use Rattle.queue.specs.Calls.{Call, take-call, return-call, receive-call, value-call, missing-call, Reply, told, worth, lacking, queueAfter, replies}
+use Rattle.post.specs.declared.Post.{Post}
+use Rattle.post.specs.Sound.{inRange}
+use Rattle.feeder.specs.Image.{image}
+use Rattle.feeder.specs.OnRecord.{onRecord, recordAfter, recordReplies, startedPost}
+
+-- the start is accepted
+abbrev pub Accepted : Start → Type 0
+Accepted st = T (inRange (st .posts) (st .own) (st .feeder) (st .places))
+
+-- frames are bytes; lent buffers may hold anything
+abbrev pub FramesAreBytes : List Call → Type 0
+FramesAreBytes [] = Unit
+FramesAreBytes (receive-call s lent ∷ calls) = Bytes s × FramesAreBytes calls
+FramesAreBytes (take-call lent ∷ calls) = FramesAreBytes calls
+FramesAreBytes (return-call lent ∷ calls) = FramesAreBytes calls
+FramesAreBytes (value-call ∷ calls) = FramesAreBytes calls
+FramesAreBytes (missing-call ∷ calls) = FramesAreBytes calls
+
+-- every answer of the record is the answer of the queue: numbers, marks, lent bytes, value, missing set and count
+abbrev pub Demand2 : Type 0
+Demand2 = (st : Start) → Accepted st → (calls : List Call) → FramesAreBytes calls → recordReplies (startedPost st) calls ≡ replies st [] calls
+
+-- because the record is the record of the queue
+abbrev pub SameRecord : Type 0
+SameRecord = (st : Start) → Accepted st → (calls : List Call) → FramesAreBytes calls → recordAfter (startedPost st) calls ≡ image st (queueAfter st [] calls)
+
+-- given the same calls, record and queue show the same order numbers and the same grants
+abbrev pub SideBySide : Type 0
+SideBySide = (st : Start) → Accepted st → (calls : List Call) → FramesAreBytes calls
+    → let p = recordAfter (startedPost st) calls in let q = queueAfter st [] calls in
+    (p .order ≡ order st q) × (p .phase ≡ phase st q)
+
+-- what a call gives that is refused with 1
+abbrev pub refusedOne : Call → Reply
+refusedOne (take-call lent) = told 1 false false lent
+refusedOne (return-call lent) = told 1 false false lent
+refusedOne (receive-call s lent) = told 1 false false lent
+refusedOne value-call = worth 1 (pos 0)
+refusedOne missing-call = lacking 1 0 0
+
+-- a refused start has no queue: every later call gives 1 and changes nothing
+abbrev pub RefusedStart : Type 0
+RefusedStart = (st : Start) → T (not (inRange (st .posts) (st .own) (st .feeder) (st .places))) → (c : Call)
+    → (onRecord (startedPost st) c .reply ≡ refusedOne c) × (onRecord (startedPost st) c .next ≡ startedPost st)

@@ -1,0 +1,5 @@
+pub mod Image
+pub mod OnRecord
+pub mod Demand2
+pub mod Records
+pub mod Nights
