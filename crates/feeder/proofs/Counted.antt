@@ -22,8 +22,9 @@ use Rattle.queue.proofs.Settling.{Between, waits-on, count-after, number-after}
 use Rattle.post.specs.declared.Post.{Post}
 use Rattle.post.specs.Record.{waitingOf, floor, inSlots, remade}
 use Rattle.post.specs.Settle.{upTo, ownNumber, orderAfter, phaseAfter, settle}
-use Rattle.post.proofs.Cut.{under, leftOf, upTo-keep, left-keep}
-use Rattle.post.proofs.OwnTakes.{Only, ownNumber-none, number-of-own}
+use Rattle.post.proofs.Settled.{under, leftOf, upTo-keep, left-keep}
+use Rattle.post.proofs.OwnMessages.{ownNumber-none}
+use Rattle.post.proofs.OwnTakes.{Only, number-of-own}
 use Rattle.feeder.specs.Image.{listFrom, image}
 use Rattle.feeder.proofs.Listed.{listFrom-at}
 use Rattle.feeder.proofs.ImageParts.{floorOf, least-cong, in-slots, heard-floor}

@@ -17,7 +17,7 @@ use Rattle.queue.proofs.Good.{Sorted, le-clock}
 use Rattle.queue.proofs.Heard.{heard-at, at-heard}
 use Rattle.queue.proofs.Clocks.{last-none}
 use Rattle.post.specs.Record.{lastOf, waitingOf, leastTo, floor, inSlots}
-use Rattle.post.proofs.Cut.{least-le, le-least}
+use Rattle.post.proofs.Floors.{least-le, le-least}
 use Rattle.feeder.specs.Image.{listFrom, image}
 use Rattle.feeder.proofs.Listed.{length-listFrom, listFrom-at}
 

@@ -13,7 +13,7 @@ use Rattle.laws.specs.Lists.{In, many, Rising, upto}
 use Rattle.laws.proofs.Tests.{test}
 use Rattle.laws.proofs.BelowLaws.{sumTo-cong}
 use Rattle.laws.proofs.ScanLaws.{many-length}
-use Rattle.laws.proofs.Passing.{length-none}
+use Rattle.laws.proofs.CountLaws.{length-none}
 use Rattle.frame.specs.declared.Message.{Message}
 use Rattle.frame.specs.Message.{blank, isTake, isReturn, stamp, by}
 use Rattle.queue.specs.Queue.{Start, Queue, clock, last, heard, settled, waiting, takes, number, room, latest, phase, order}
@@ -28,7 +28,7 @@ use Rattle.queue.proofs.Totals.{total-fits, one-take, no-take, none-own, waits-
 use Rattle.post.specs.Record.{lastOf, inSlots}
 use Rattle.post.specs.Sound.{endKind, ownFits, ownFew, orderFits, sound}
 use Rattle.post.proofs.Ranges.{Range}
-use Rattle.post.proofs.SoundMade.{sound-passes}
+use Rattle.post.proofs.SoundPasses.{sound-passes}
 use Rattle.post.proofs.OwnTakes.{end-of-own}
 use Rattle.feeder.specs.Image.{image}
 use Rattle.feeder.proofs.ImageParts.{floorOf, image-waiting, image-last, image-floor, heard-floor}

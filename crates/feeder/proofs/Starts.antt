@@ -1,7 +1,7 @@
 -- A start gives the record of the empty queue, or one that refuses every call where its numbers are out of range. Assumes nothing.
+use mathlib.Core.List.{[]}
 use mathlib.Core.Path.{_≡_, refl, sym, ap, subst}
 use mathlib.Core.Bool.{Bool, cond}
-use mathlib.Core.List.{[]}
 use lib.Ieee.Bits.{is-true, is-false}
 use Rattle.laws.specs.Lists.{keep, final, top}
 use Rattle.queue.specs.Queue.{Start, clock, last, settled, waiting, latest, phase, order}

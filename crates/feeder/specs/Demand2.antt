@@ -2,13 +2,11 @@
 use mathlib.Core.Path.{_≡_}
 use mathlib.Core.Bool.{false, not}
 use mathlib.Core.List.{List, [], _∷_}
-use Prim.Native.Nat.{ℕ}
 use lib.Dec.{T}
 use lib.IntN.{pos}
 use Rattle.laws.specs.Big.{Bytes}
 use Rattle.queue.specs.Queue.{Start, phase, order}
 use Rattle.queue.specs.Calls.{Call, take-call, return-call, receive-call, value-call, missing-call, Reply, told, worth, lacking, queueAfter, replies}
-use Rattle.post.specs.declared.Post.{Post}
 use Rattle.post.specs.Sound.{inRange}
 use Rattle.feeder.specs.Image.{image}
 use Rattle.feeder.specs.OnRecord.{onRecord, recordAfter, recordReplies, startedPost}

@@ -1,15 +1,15 @@
 -- Demand 3 over records and bytes: posts that keep short records, and frames that travel as they were written.
 use mathlib.Core.Path.{_≡_}
-use mathlib.Core.Bool.{Bool, true, false, not, cond, _&&_}
+use mathlib.Core.Bool.{Bool, false, not, cond, _&&_}
 use mathlib.Core.List.{List, [], _∷_, _++_, map}
 use Prim.Native.Nat.{ℕ, _+_, _≤_, _<_}
 use lib.Dec.{T, ltb, eqb}
 use lib.ListN.{length, take, drop}
 use Rattle.laws.specs.Below.{sumTo, countTo}
 use Rattle.frame.specs.Frame.{frame}
-use Rattle.queue.specs.Queue.{Start, grants}
-use Rattle.queue.specs.Calls.{Call, take-call, return-call, receive-call, Reply, told, worth, lacking, Answer}
-use Rattle.queue.specs.Feeder.{Line, start, Act, takeAt, returnAt, deliver, Made, none, at-post, buffer, fresh, sent, run, returnsSent}
+use Rattle.queue.specs.Queue.{grants}
+use Rattle.queue.specs.Calls.{Call, take-call, return-call, receive-call, Reply, told, worth, lacking}
+use Rattle.queue.specs.Feeder.{Line, start, Act, takeAt, returnAt, deliver, buffer, fresh, sent, run, returnsSent}
 use Rattle.queue.specs.Demand3.{marked, Demand3}
 use Rattle.post.specs.declared.Post.{Post}
 use Rattle.post.specs.Sound.{inRange}

@@ -1,10 +1,9 @@
 -- A frame has one meaning, and a message has one frame. The statements, then their proofs. Assumes nothing.
 use Prim.Native.Nat.{ℕ, _<_, _^_}
 use mathlib.Core.Path.{_≡_, refl, ap, _∙_, sym}
-use mathlib.Core.Bool.{Bool, true, false, not, cond}
-use mathlib.Core.List.{List, [], _∷_, _++_}
-use native.Mathlib.Omega.{arith}
-use borrow.Author.Tests.{eqb-true, eq-eqb, ne-eqb, not-false}
+use mathlib.Core.Bool.{Bool, true, false, cond}
+use mathlib.Core.List.{List, [], _∷_}
+use borrow.Author.Tests.{eqb-true, eq-eqb, not-false}
 use lib.Dec.{eqb, lit<}
 use lib.ListN.{length, take, drop}
 use lib.Seq.{take-at}
@@ -14,7 +13,6 @@ use Rattle.laws.proofs.BigLaws.{fields-back, only-fields}
 use Rattle.laws.proofs.Ladders.{on, quiet, unrefused}
 use Rattle.frame.specs.declared.Message.{Message}
 use Rattle.frame.specs.declared.Fields.{Fields}
-use Rattle.frame.specs.declared.Reading.{Reading}
 use Rattle.frame.specs.Message.{blank}
 use Rattle.frame.specs.Frame.{mark, widths, frame, fieldsFrom, fieldsOf, messageRows, readRows, reading, readFrame, writeRows, writeNo, bytesAfter}
 

@@ -1,5 +1,5 @@
 -- Stamps are ordered by counter, then by post number, and no two senders share one. Assumes nothing.
-use Prim.Native.Nat.{ℕ, _<_}
+use Prim.Native.Nat.{_<_}
 use mathlib.Core.Path.{_≡_}
 use mathlib.Core.Logic.{_⊎_, inl, inr, ⊎-elim, _↔_}
 use native.Mathlib.Omega.{arith}

@@ -13,7 +13,7 @@ use Rattle.laws.specs.Lists.{In, keep, many, Rising, put, upto, top}
 use Rattle.laws.proofs.Tests.{test, cond-both, and-r}
 use Rattle.laws.proofs.BelowLaws.{one-yes, one-le}
 use Rattle.laws.proofs.ListLaws.{in-cast, in-keep, keep-in, keep-yes, keep-keep, many-cons, many-le}
-use Rattle.laws.proofs.Passing.{keep-all, many-none, many-append}
+use Rattle.laws.proofs.CountLaws.{keep-all, many-none, many-append}
 use Rattle.laws.proofs.RisingLaws.{rising-keep, rising-same}
 
 pub one-most : (b : Bool) → one? b ≤ 1

@@ -7,7 +7,7 @@ use Rattle.laws.proofs.Tests.{and-l, and-r, same-test}
 use Rattle.laws.specs.Ladder.{Row, refusal}
 use mathlib.Core.Path.{_≡_, refl, ap, _∙_, sym}
 use mathlib.Core.Bool.{Bool, true, false, cond, not, _&&_, _||_}
-use borrow.Author.Tests.{not-true, not-false, lt-ltb, le-ltb, le-leb, lt-leb, eq-eqb, ne-eqb}
+use borrow.Author.Tests.{lt-ltb, le-ltb, le-leb, lt-leb, eq-eqb, ne-eqb}
 
 module _ {A : Type 0} {r : A} where
   pub on : (t : Bool) (x y : A) → t ≡ true → r ≡ x → r ≡ cond t x y

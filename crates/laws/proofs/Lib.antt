@@ -12,6 +12,5 @@ pub mod IntLaws
 pub mod RefusalLaws
 pub mod BitLaws
 pub mod ShiftLaws
-pub mod Passing
 pub mod Counting
 pub mod SumBounds

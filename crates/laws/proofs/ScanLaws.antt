@@ -8,7 +8,7 @@ use native.Mathlib.Omega.{arith}
 use native.Mathlib.Numerals.{add-one}
 use native.Mathlib.Nat.{eq-or-lt-of-le, le-of-suc-le-suc}
 use lib.Dec.{T}
-use lib.ListN.{length, getD, drop, drop-of-length-le}
+use lib.ListN.{length, getD, drop}
 use lib.Seq.{slice, slice-cons, slice-empty, drop-cons}
 use Rattle.laws.specs.Lists.{In, keep, many, all}
 use Rattle.laws.specs.Below.{allTo, sumTo}

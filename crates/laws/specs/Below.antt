@@ -1,5 +1,5 @@
 -- Over the numbers below n: a test of each, a sum, and those that pass a test as a set of bits.
-use mathlib.Core.Bool.{Bool, true, false, cond, _&&_}
+use mathlib.Core.Bool.{Bool, true, cond, _&&_}
 use Prim.Native.Nat.{ℕ, zero, suc, _+_, _^_}
 
 unfoldable pub allTo : ℕ → (ℕ → Bool) → Bool

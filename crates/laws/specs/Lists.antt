@@ -1,9 +1,9 @@
 -- Lists: what is in them, what passes a test, what rises by a number, where one begins another.
 use mathlib.Core.Path.{_≡_}
 use mathlib.Core.Logic.{_⊎_}
-use mathlib.Core.Bool.{Bool, true, false, cond, _&&_}
+use mathlib.Core.Bool.{Bool, true, cond, _&&_}
 use mathlib.Core.List.{List, [], _∷_, _++_}
-use Prim.Native.Nat.{ℕ, zero, suc, _<_, max}
+use Prim.Native.Nat.{ℕ, _<_, max}
 use lib.Dec.{leb, ltb}
 use lib.ListN.{length}
 

@@ -1,3 +1,4 @@
+pub mod Ranges
 pub mod SoundFacts
 pub mod Shape
 pub mod Accepted
@@ -24,7 +25,4 @@ pub mod RowsReceive
 pub mod Answering
 pub mod Lacking
 pub mod Unique
-pub mod Cut
 pub mod OwnTakes
-pub mod SoundMade
-pub mod Ranges

@@ -5,8 +5,8 @@ use mathlib.Core.List.{List, [], _∷_}
 use Prim.Native.Nat.{ℕ, _+_, _≤_, _<_}
 use native.Mathlib.Omega.{arith}
 use native.Mathlib.Nat.{zero-add}
-use borrow.Author.Tests.{lt-ltb, le-ltb, eq-eqb, ne-eqb}
-use lib.Dec.{T, ltb, leb, eqb, eqb→eq, eqb-refl}
+use borrow.Author.Tests.{lt-ltb, le-ltb}
+use lib.Dec.{leb, eqb, eqb→eq}
 use lib.ListN.{length, getD, set, replicate, length-set, getD-replicate}
 use lib.Seq.{slice, getD-set-same, getD-set-other}
 use Rattle.laws.specs.Lists.{keep, all, many}

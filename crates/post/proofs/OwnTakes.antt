@@ -46,16 +46,6 @@ stamp-of-own own (x ∷ xs) t o =
 
 -- ---- its number
 
-pub ownNumber-none : (own n : ℕ) (l : List Message) → ((a : Message) → In a l → T (by own a && isTake a) → ⊥) → ownNumber own n l ≡ 0
-unfolding ownNumber
-ownNumber-none own n [] h = refl
-ownNumber-none own n (x ∷ xs) h =
-    test (isTake x)
-    (λ y.
-    rw (is-true (isTake x) y, is-false (by own x) (not-T (by own x) (λ z. h x (inl refl) (yes-and (by own x) (isTake x) z y))))
-    (ownNumber-none own (n + 1) xs (λ a i. h a (inr i))))
-    (λ y. rw (is-false (isTake x) y) (ownNumber-none own n xs (λ a i. h a (inr i))))
-
 pub number-of-own : (own n : ℕ) (l : List Message) (t : Message) → Rising stamp l → Only own t l
     → ownNumber own n l ≡ n + upto stamp (keep isTake l) t
 unfolding ownNumber

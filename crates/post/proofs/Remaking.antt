@@ -1,12 +1,11 @@
 -- The record that the code makes, as the definitions make it anew. Assumes nothing.
-use mathlib.Core.Path.{_≡_, refl, ap, ap₂, _∙_, sym}
+use mathlib.Core.Path.{_≡_, ap, ap₂, _∙_, sym}
 use mathlib.Core.List.{List, _++_, map}
-use Prim.Native.Nat.{ℕ, suc, _+_, _-_, _≤_, _<_}
+use Prim.Native.Nat.{ℕ, _+_, _-_, _≤_, _<_}
 use native.Mathlib.Omega.{arith}
-use native.Mathlib.Numerals.{add-one}
 use mathlib.Core.Bool.{cond}
 use lib.Dec.{eqb}
-use lib.ListN.{length, getD, take, drop, replicate, length-drop, length-map, take-append-drop}
+use lib.ListN.{length, getD, drop, replicate, length-drop, length-map, take-append-drop}
 use lib.Seq.{drop-drop}
 use Rattle.laws.specs.Lists.{many, put}
 use Rattle.laws.proofs.CountLaws.{length-put}
@@ -19,7 +18,7 @@ use Rattle.post.specs.Record.{waitingOf, leastTo, floor, inSlots, remade
 use Rattle.post.specs.Settle.{upTo, ownNumber, orderAfter, phaseAfter, settle}
 use Rattle.post.specs.Inside.{Left}
 use Rattle.post.proofs.SoundFacts.{Sound, sound-has}
-use Rattle.post.proofs.Shape.{Shape, Width, Kept, length-waiting}
+use Rattle.post.proofs.Shape.{Kept, length-waiting}
 use Rattle.post.proofs.Most.{most}
 
 -- the length of an array of structs, from the list of what it denotes

@@ -1,10 +1,10 @@
 -- The rows of receive, as the code goes through them. Assumes nothing.
 use mathlib.Core.Path.{_≡_, refl, ap, _∙_, sym}
 use mathlib.Core.Bool.{Bool, true, false, not, _||_, true≢false}
-use mathlib.Core.List.{List, [], _∷_, _++_}
+use mathlib.Core.List.{List, _∷_, _++_}
 use Prim.Native.Nat.{ℕ, _≤_, _<_}
-use borrow.Author.Tests.{lt-ltb, le-ltb, eq-eqb, ne-eqb, leb-false}
-use lib.Dec.{T, ltb, leb, eqb}
+use borrow.Author.Tests.{le-ltb, eq-eqb, ne-eqb, leb-false}
+use lib.Dec.{ltb, eqb}
 use lib.ListN.{length}
 use Rattle.laws.specs.Ladder.{Row, _when_, refusal}
 use Rattle.laws.proofs.Ladders.{on, off, not-on, not-off, quiet, first-refuses, first-passes}

@@ -1,23 +1,22 @@
 -- The rows of the rules, from what the code's functions say. Assumes nothing.
-use mathlib.Core.Path.{_≡_, refl, ap, ap₂, _∙_, sym, subst}
+use mathlib.Core.Path.{_≡_, refl, ap, _∙_, sym, subst}
 use mathlib.Core.Bool.{Bool, true, false, not, _&&_, _||_, and-true, false≢true}
-use mathlib.Core.List.{List, [], _∷_}
-use Prim.Native.Nat.{ℕ, _+_, _≤_, _<_}
+use Prim.Native.Nat.{ℕ, _+_, _≤_}
 use native.Mathlib.Omega.{arith}
 use denote.Floats.{passes}
-use lib.Dec.{T, leb, ltb, eqb, leb→le}
+use lib.Dec.{leb, ltb, eqb, leb→le}
 use lib.ListN.{getD, take, drop}
 use Rattle.laws.specs.Ladder.{every}
-use Rattle.laws.specs.Lists.{all, many}
+use Rattle.laws.specs.Lists.{all}
 use Rattle.laws.specs.Below.{allTo, sumTo}
-use Rattle.laws.proofs.Ladders.{and-first, and-fails}
 use Rattle.laws.proofs.ScanLaws.{allTo-both, allTo-cong}
-use Rattle.frame.specs.Message.{stampOf, by}
+use Rattle.frame.specs.Message.{stampOf}
 use Rattle.post.specs.declared.Post.{Post}
 use Rattle.post.specs.declared.slots.Seen.{Seen}
 use Rattle.post.specs.Record.{leastTo, lastOf, waitingOf, floor}
 use Rattle.post.specs.Inside.{Looked}
-use Rattle.post.specs.Sound.{absentSilent, clockAbove, fair, rises, noneAlone, isBlank, few, ownFits, ownFew, sumFits, inRange, numberRules, slotRules}
+use Rattle.post.specs.Sound.{absentSilent, clockAbove, fair, rises, noneAlone, isBlank, few, ownFits, ownFew, sumFits, numberRules, slotRules}
+use Rattle.post.proofs.Ranges.{range-is}
 use Rattle.post.proofs.SoundFacts.{each}
 
 -- the two rules on last counters are one test of each
@@ -70,11 +69,11 @@ pub record InBounds (p : Post) : Type 0 where
   pub waits : p .waits ≤ 62
 
 pub numbers-has : (p : Post) → every (numberRules p) ≡ true → InBounds p
-unfolding numberRules inRange
+unfolding numberRules
 numbers-has p e =
     let n = each (numberRules p) (passes _ e) in
-    let r = each (leb 1 (p .posts) ∷ leb (p .posts) 16 ∷ ltb (p .own) (p .posts) ∷ leb 1 (p .places) ∷ leb (p .places) 16 ∷ leb (p .feeder) 255 ∷ []) (n .0) in
-    record { posts = leb→le (p .posts) 16 (r .1 .0); waits = leb→le (p .waits) 62 (n .1 .1 .0) }
+    let r = range-is (p .posts) (p .own) (p .feeder) (p .places) (n .0) in
+    record { posts = r .posts-high; waits = leb→le (p .waits) 62 (n .1 .1 .0) }
 
 -- the floor that the code works out is the record's
 pub looked-floor : (p : Post) (seen : Seen) {f : ℕ} → f ≡ leastTo (p .posts) (p .own) (λ q. stampOf (getD (p .last) q 0) q)

@@ -1,23 +1,24 @@
 -- What a sound record has, rule by rule. Assumes nothing.
-use mathlib.Core.Path.{_≡_, refl, ap, ap₂, _∙_, sym, subst}
-use mathlib.Core.Logic.{_⊎_, inl, inr, ⊎-elim}
-use mathlib.Core.Bool.{Bool, true, false, not, cond, _&&_, _||_}
+use mathlib.Core.Path.{_≡_, refl, ap, ap₂}
+use mathlib.Core.Logic.{inl, inr, ⊎-elim}
+use mathlib.Core.Bool.{Bool, not, _||_}
 use mathlib.Core.List.{List, [], _∷_}
-use Prim.Native.Nat.{ℕ, zero, suc, _+_, _≤_, _<_}
+use Prim.Native.Nat.{ℕ, _+_, _≤_, _<_}
 use native.Mathlib.Omega.{arith}
-use lib.Dec.{T, leb, ltb, eqb, leb→le, ltb→lt, eqb→eq, T-not, not-T}
+use lib.Dec.{T, leb, ltb, eqb, leb→le, ltb→lt, eqb→eq, T-not}
 use lib.ListN.{length, getD, drop, replicate}
 use Rattle.laws.specs.Ladder.{every}
 use Rattle.laws.specs.Lists.{In, all, many, Rising}
-use Rattle.laws.specs.Below.{allTo, sumTo}
-use Rattle.laws.proofs.Tests.{and-l, and-r, or-e, test}
+use Rattle.laws.specs.Below.{sumTo}
+use Rattle.laws.proofs.Tests.{and-l, and-r, or-e}
 use Rattle.laws.proofs.BelowLaws.{allTo-at}
 use Rattle.laws.proofs.ScanLaws.{all-at}
 use Rattle.frame.specs.declared.Message.{Message}
-use Rattle.frame.specs.Message.{msg, blank, counted, isTake, isReturn, stamp, by}
+use Rattle.frame.specs.Message.{msg, blank, counted, stamp, by}
 use Rattle.post.specs.declared.Post.{Post}
 use Rattle.post.specs.Record.{lastOf, waitingOf, floor}
-use Rattle.post.specs.Sound.{inRange, absentSilent, clockAbove, fair, rises, noneAlone, isBlank, few, endKind, ownFits, ownFew, sumFits, orderFits, numberRules, slotRules, countRules, sound}
+use Rattle.post.specs.Sound.{absentSilent, clockAbove, fair, rises, noneAlone, isBlank, few, ownFew, sumFits, orderFits, numberRules, slotRules, countRules, sound}
+use Rattle.post.proofs.Ranges.{range-is}
 
 pub record Fair (posts : ℕ) (last : List ℕ) (m : Message) : Type 0 where
   pub sender : m .sender < posts
@@ -99,20 +100,20 @@ each [] e = tt
 each (t ∷ ts) e = (and-l t (every ts) e, each ts (and-r t (every ts) e))
 
 pub sound-has : (p : Post) → T (sound p) → Sound p
-unfolding sound numberRules slotRules countRules inRange absentSilent clockAbove noneAlone few sumFits
+unfolding sound numberRules slotRules countRules absentSilent clockAbove noneAlone few sumFits
 sound-has p t =
     let n = each (numberRules p) (and-l (every (numberRules p)) _ t) in
     let s = and-r (every (numberRules p)) _ t in
     let w = each (slotRules p) (and-l (every (slotRules p)) _ s) in
     let c = each (countRules p) (and-r (every (slotRules p)) _ s) in
-    let r = each (leb 1 (p .posts) ∷ leb (p .posts) 16 ∷ ltb (p .own) (p .posts) ∷ leb 1 (p .places) ∷ leb (p .places) 16 ∷ leb (p .feeder) 255 ∷ []) (n .0) in
+    let r = range-is (p .posts) (p .own) (p .feeder) (p .places) (n .0) in
     record {
-      posts-low = leb→le 1 (p .posts) (r .0);
-      posts-high = leb→le (p .posts) 16 (r .1 .0);
-      own = ltb→lt (p .own) (p .posts) (r .1 .1 .0);
-      places-low = leb→le 1 (p .places) (r .1 .1 .1 .0);
-      places-high = leb→le (p .places) 16 (r .1 .1 .1 .1 .0);
-      feeder = leb→le (p .feeder) 255 (r .1 .1 .1 .1 .1 .0);
+      posts-low = r .posts-low;
+      posts-high = r .posts-high;
+      own = r .own-low;
+      places-low = r .places-low;
+      places-high = r .places-high;
+      feeder = r .feeder-high;
       phase = leb→le (p .phase) 3 (n .1 .0);
       waits = leb→le (p .waits) 62 (n .1 .1 .0);
       absent = λ q l h. ⊎-elim (λ y. absurd (let z = ltb→lt q (p .posts) y in omega arith)) (λ y. eqb→eq (lastOf p q) 0 y)

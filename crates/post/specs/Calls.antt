@@ -10,7 +10,6 @@ use Rattle.laws.specs.Ladder.{Row, _when_, refusal}
 use Rattle.laws.specs.Lists.{many, put}
 use Rattle.laws.specs.Below.{countTo, bitsTo}
 use Rattle.frame.specs.declared.Message.{Message}
-use Rattle.frame.specs.declared.Fields.{Fields}
 use Rattle.frame.specs.Message.{msg, isTake, counted, known, lastCounter, stampOf, stamp, by}
 use Rattle.frame.specs.Frame.{frame, fieldsOf, formRows}
 use Rattle.post.specs.declared.Post.{Post}

@@ -1,6 +1,6 @@
 -- The post's short record: what its fields say, how it starts, and the record with other messages waiting.
 use mathlib.Core.Bool.{cond}
-use mathlib.Core.List.{List, [], _∷_, _++_}
+use mathlib.Core.List.{List, _++_}
 use Prim.Native.Nat.{ℕ, zero, suc, _-_, _^_, min}
 use lib.Dec.{eqb}
 use lib.ListN.{length, getD, take, replicate}

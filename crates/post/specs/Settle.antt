@@ -1,5 +1,5 @@
 -- What is settled leaves the slots in stamp order and is counted.
-use mathlib.Core.Bool.{cond, not, _&&_}
+use mathlib.Core.Bool.{cond}
 use mathlib.Core.List.{List, [], _∷_}
 use Prim.Native.Nat.{ℕ, _+_}
 use lib.Dec.{leb, ltb, eqb}

@@ -1,7 +1,7 @@
 -- Demand 3 over full queues, and that the granted takes are the marks: the proofs of `specs/Demand3`. Assumes nothing.
+use mathlib.Core.List.{[]}
 use mathlib.Core.Path.{sym, subst}
 use Prim.Native.Nat.{ℕ, _<_}
-use mathlib.Core.List.{[]}
 use Rattle.laws.specs.Lists.{keep}
 use Rattle.queue.specs.Queue.{settled, grants}
 use Rattle.queue.specs.Feeder.{Line, start, Feeder, fresh, run}

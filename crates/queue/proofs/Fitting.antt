@@ -9,7 +9,7 @@ use Rattle.laws.specs.Below.{one?}
 use Rattle.laws.specs.Lists.{keep, many, put, top}
 use Rattle.laws.proofs.Tests.{test, cond-both, and-l}
 use Rattle.laws.proofs.BelowLaws.{one-eqb}
-use Rattle.laws.proofs.Passing.{many-none, many-put}
+use Rattle.laws.proofs.CountLaws.{many-none, many-put}
 use Rattle.laws.proofs.Counting.{one-most, one-no, many-keep}
 use Rattle.frame.specs.declared.Message.{Message}
 use Rattle.frame.specs.Message.{msg, isReturn, counted, known, lastCounter, stamp, by}

@@ -1,8 +1,8 @@
 -- What the queue of a post has, whatever calls were made: it is sorted by stamp, its messages are proper, and each take or return of another
 -- post stands below a message of its own. Assumes nothing.
+use mathlib.Core.List.{[]}
 use mathlib.Core.Path.{_≡_, refl, sym, ap, subst}
 use mathlib.Core.Logic.{_⊎_, inl, inr, ⊎-elim}
-use mathlib.Core.List.{[]}
 use Prim.Native.Nat.{ℕ, _≤_, _<_}
 use native.Mathlib.Omega.{arith}
 use lib.Dec.{T, T-not, eqb-refl}

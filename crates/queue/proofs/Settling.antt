@@ -11,7 +11,7 @@ use Rattle.laws.specs.Lists.{In, keep, many, Rising, put, upto}
 use Rattle.laws.proofs.Tests.{cond-both}
 use Rattle.laws.proofs.ListLaws.{in-right, in-append, in-keep, keep-in, keep-append}
 use Rattle.laws.proofs.RisingLaws.{rising-seam, rising-keep, rising-same, in-put, put-in, rising-put}
-use Rattle.laws.proofs.Passing.{many-append}
+use Rattle.laws.proofs.CountLaws.{many-append}
 use Rattle.laws.proofs.Counting.{rising-right, upto-after}
 use Rattle.frame.specs.declared.Message.{Message}
 use Rattle.frame.specs.Message.{msg, isTake, counted, known, stamp}

@@ -14,7 +14,7 @@ use Rattle.laws.proofs.BelowLaws.{sumTo-le}
 use Rattle.laws.proofs.ListLaws.{keep-in, keep-keep, many-cons, parts}
 use Rattle.laws.proofs.RisingLaws.{rising-keep}
 use Rattle.laws.proofs.ScanLaws.{many-length}
-use Rattle.laws.proofs.Passing.{many-none}
+use Rattle.laws.proofs.CountLaws.{many-none}
 use Rattle.laws.proofs.Counting.{many-all, many-one}
 use Rattle.laws.proofs.SumBounds.{sumTo-grows, sumTo-fours-but}
 use Rattle.frame.specs.declared.Message.{Message}

@@ -9,10 +9,9 @@ use Rattle.laws.specs.Ladder.{Row, _when_, refusal}
 use Rattle.laws.specs.Lists.{many, put}
 use Rattle.laws.specs.Below.{countTo, bitsTo}
 use Rattle.frame.specs.declared.Message.{Message}
-use Rattle.frame.specs.declared.Fields.{Fields}
 use Rattle.frame.specs.Message.{msg, counted, known, lastCounter, stamp, by}
 use Rattle.frame.specs.Frame.{frame, fieldsOf, formRows}
-use Rattle.queue.specs.Queue.{Start, Queue, clock, last, waiting, latest, phase, value, lacks}
+use Rattle.queue.specs.Queue.{Start, Queue, clock, last, waiting, phase, value, lacks}
 
 -- a call, with the frame that is handed in and the bytes that are lent
 pub data Call : Type 0 where

@@ -1,5 +1,5 @@
 use borrow.Author.Needs.{needs}
-use Prim.Native.Nat.{ℕ, _+_, _≤_}
+use Prim.Native.Nat.{ℕ, _+_}
 use mathlib.Core.Path.{_∙_, ap, subst, sym}
 use mathlib.Core.List.{_++_}
 use native.Mathlib.Omega.{arith}

@@ -1,8 +1,7 @@
 use borrow.Author.Needs.{needs}
-use Prim.Native.Nat.{ℕ, _+_, _<_}
+use Prim.Native.Nat.{ℕ, _+_}
 use mathlib.Core.Path.{_∙_, ap}
-use native.Mathlib.Omega.{arith}
-use lib.ListN.{set, length-set}
+use lib.ListN.{set}
 use Rattle.laws.specs.Lists.{put}
 use Rattle.frame.specs.Message.{stamp}
 use Rattle.post.specs.Record.{waitingOf, remade}

@@ -1,7 +1,6 @@
 use borrow.Author.Needs.{needs}
-use Prim.Native.Nat.{ℕ, _<_}
+use Prim.Native.Nat.{ℕ}
 use mathlib.Core.Path.{_∙_, ap}
-use native.Mathlib.Omega.{arith}
 use lib.ListN.{set}
 use Rattle.post.specs.Record.{waitingOf, remade}
 use Rattle.post.specs.Calls.{noted}

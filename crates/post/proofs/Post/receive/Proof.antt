@@ -1,7 +1,6 @@
 use borrow.Author.Needs.{needs}
-use Prim.Native.Nat.{ℕ, _≤_, _<_, max}
+use Prim.Native.Nat.{ℕ, _≤_}
 use mathlib.Core.Path.{_≡_, _∙_, ap, subst, sym}
-use mathlib.Core.Bool.{true, false}
 use mathlib.Core.List.{List}
 use native.Mathlib.Omega.{arith}
 use denote.Floats.{passes}
@@ -11,7 +10,6 @@ use lib.ListN.{length}
 use borrow.Author.Tests.{ltb-false}
 use Rattle.laws.specs.Ladder.{refusal}
 use Rattle.laws.proofs.Ladders.{quiet}
-use Rattle.frame.specs.declared.Message.{Message}
 use Rattle.frame.specs.declared.Fields.{Fields}
 use Rattle.frame.specs.Message.{counted}
 use Rattle.frame.specs.Frame.{fieldsOf, formRows}
@@ -21,7 +19,7 @@ use Rattle.post.specs.Settle.{settle}
 use Rattle.post.specs.Calls.{senderRows, turnRows, receiveRows, noted}
 use Rattle.post.specs.Inside.{Countable}
 use Rattle.post.proofs.Shape.{Kept}
-use Rattle.post.proofs.Accepted.{Accepted, accepted}
+use Rattle.post.proofs.Accepted.{accepted}
 use Rattle.post.proofs.Remaking.{length-mapped}
 use Rattle.post.proofs.Answering.{noted-countable, not-heard, is-heard, is-noted, is-done}
 use Rattle.post.proofs.Post.receive.Statement.{statement}

@@ -1,9 +1,6 @@
 use borrow.Author.Needs.{needs}
-use Prim.Native.Nat.{ℕ, _+_, _≤_}
 use mathlib.Core.Path.{_∙_, ap, subst, sym}
 use native.Mathlib.Omega.{arith}
-use Rattle.frame.specs.Message.{msg}
-use Rattle.post.specs.declared.Post.{Post}
 use Rattle.post.specs.Settle.{settle}
 use Rattle.post.specs.Inside.{Countable}
 use Rattle.post.proofs.SoundFacts.{sound-has}

@@ -1,12 +1,8 @@
 use borrow.Author.Needs.{needs}
-use Prim.Native.Nat.{_≤_}
-use mathlib.Core.Path.{_≡_, refl, _∙_, sym}
+use mathlib.Core.Path.{refl, _∙_, sym}
 use mathlib.Core.Bool.{true}
 use borrow.Author.Tests.{not-true, not-false}
-use lib.Dec.{T}
-use native.Mathlib.Omega.{arith}
 use Rattle.laws.proofs.Ladders.{and-first, and-fails}
-use Rattle.post.specs.declared.Post.{Post}
 use Rattle.post.specs.Record.{floor}
 use Rattle.post.proofs.RowsSound.{numbers-has, looked-floor, disorder, order, few-is, own-is, crowd}
 use Rattle.post.proofs.Post.slots_sound.Statement.{statement}

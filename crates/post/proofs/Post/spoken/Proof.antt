@@ -1,8 +1,4 @@
 use borrow.Author.Needs.{needs}
-use Prim.Native.Nat.{_+_, _<_}
-use mathlib.Core.Path.{_∙_}
-use native.Mathlib.Omega.{arith}
-use lib.ListN.{set}
 use Rattle.post.specs.Calls.{spoken}
 use Rattle.post.proofs.SoundFacts.{sound-has}
 use Rattle.post.proofs.Shape.{Kept}

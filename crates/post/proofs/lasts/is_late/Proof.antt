@@ -1,6 +1,6 @@
 use borrow.Author.Needs.{needs}
 use borrow.Author.Tests.{ne-eqb}
-use mathlib.Core.Path.{refl, ap}
+use mathlib.Core.Path.{ap}
 use mathlib.Core.Bool.{not}
 use Rattle.laws.proofs.Ladders.{tests, picks, and-first}
 use Rattle.post.proofs.lasts.is_late.Statement.{statement}

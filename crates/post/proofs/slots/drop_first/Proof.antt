@@ -3,7 +3,7 @@ use Prim.Native.Nat.{_-_}
 use mathlib.Core.Path.{_≡_, refl, ap, _∙_, sym}
 use mathlib.Core.List.{List, _++_}
 use native.Mathlib.Omega.{arith}
-use lib.ListN.{length, take, replicate}
+use lib.ListN.{length, replicate}
 use lib.Seq.{slice, length-slice}
 use Rattle.laws.proofs.ShiftLaws.{Copied, none-copied, one-copied, all-copied, drop-replicate}
 use Rattle.frame.specs.declared.Message.{Message}
