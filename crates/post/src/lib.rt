@@ -16,7 +16,7 @@ ghost use Rattle.frame.specs.Frame.{fieldsOf};
 ghost use Rattle.post.specs.Record.{fresh};
 ghost use Rattle.post.specs.Sound.{inRange, numberRules, slotRules, countRules, sound};
 ghost use Rattle.post.specs.Settle.{orderAfter, phaseAfter, settle};
-ghost use Rattle.post.specs.Inside.{Countable};
+ghost use Rattle.post.specs.Inside.{Countable, answer};
 ghost use Rattle.post.specs.Calls.{started, spoken, came, noted, ackClock, takeRows, returnRows, senderRows, turnRows, receiveRows, done, refused, over, Gives, took, tookBytes, gaveBack, gaveBackBytes, received, receivedBytes, valued, missed};
 
 // Document 01's record, its fields in 01's order and widths.
@@ -290,10 +290,10 @@ impl Post {
         self
     }
 
-    // The record after what is settled has left the slots and is counted.
-    fn settled(self) -> Self
+    // What a call gives back once what is settled has left the slots and is counted.
+    fn settled(mut self, before: u8, wrote: bool) -> Answer
         requires { ⌜ Countable self ⌝ }
-        ensures { λ r. ⌜ r ≡ settle self ⌝ }
+        ensures { λ r. ⌜ r ≡ answer before (settle self) wrote ⌝ }
     {
         let last = self.last;
         let slots = self.slots;
@@ -306,19 +306,18 @@ impl Post {
         let returns = self.returns + gone.returns;
         let order = order_after(self.phase, self.order, gone.order);
         let phase = phase_after(self.phase, order, self.places as u64 + returns);
-        Self {
-            posts: self.posts,
-            own,
-            feeder: self.feeder,
-            places: self.places,
-            clock: self.clock,
-            last,
-            waits: (n - k) as u8,
-            slots: left,
-            takes: gone.takes,
-            returns,
-            phase,
-            order,
+        let granted = is_grant(before, phase);
+        self.waits = (n - k) as u8;
+        self.slots = left;
+        self.takes = gone.takes;
+        self.returns = returns;
+        self.phase = phase;
+        self.order = order;
+        Answer {
+            post: self,
+            number: 0,
+            wrote,
+            granted,
         }
     }
 
@@ -428,20 +427,13 @@ impl Post {
         requires { ⌜ T (sound self) × (self .clock < lastCounter) × T (known kind) × (12 ≤ length (now buf)) ⌝ }
         ensures { λ r. ⌜ Gives (done self (settle (spoken self kind phase)) true) (over self (msg kind (self .own) (self .clock + 1)) (now (buf .entry))) r (now (buf .exit)) ⌝ }
     {
-        let next = self.spoken(kind, phase).settled();
         let m = Message {
             kind,
             sender: self.own,
             counter: self.clock + 1,
         };
         frame::write(buf, self.feeder, m);
-        let granted = is_grant(self.phase, next.phase);
-        Answer {
-            post: next,
-            number: 0,
-            wrote: true,
-            granted,
-        }
+        self.spoken(kind, phase).settled(self.phase, true)
     }
 
     // A truck is plugged in.
@@ -471,20 +463,13 @@ impl Post {
         requires { ⌜ T (sound self) × (m .sender < self .posts) × (max (self .clock) (m .counter) < lastCounter) × (12 ≤ length (now buf)) ⌝ }
         ensures { λ r. ⌜ Gives (done self (settle (came self m)) true) (over self (msg 3 (self .own) (ackClock self m)) (now (buf .entry))) r (now (buf .exit)) ⌝ }
     {
-        let next = self.came(m).settled();
         let ack = Message {
             kind: 3,
             sender: self.own,
             counter: larger(self.clock, m.counter) + 1,
         };
         frame::write(buf, self.feeder, ack);
-        let granted = is_grant(self.phase, next.phase);
-        Answer {
-            post: next,
-            number: 0,
-            wrote: true,
-            granted,
-        }
+        self.came(m).settled(self.phase, true)
     }
 
     // A frame has arrived.
@@ -500,14 +485,7 @@ impl Post {
         if slots::is_counted(m) {
             return self.accept(m, buf);
         }
-        let next = self.noted(m).settled();
-        let granted = is_grant(self.phase, next.phase);
-        Answer {
-            post: next,
-            number: 0,
-            wrote: false,
-            granted,
-        }
+        self.noted(m).settled(self.phase, false)
     }
 
     // K + settled returns - settled takes.

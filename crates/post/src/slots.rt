@@ -4,12 +4,12 @@ use frame::Message;
 ghost use mathlib.Core.Path.{_≡_};
 ghost use mathlib.Core.Bool.{false, cond, _&&_};
 ghost use mathlib.Core.List.{_++_};
-ghost use Prim.Native.Nat.{_≤_, _<_, _+_, _^_};
+ghost use Prim.Native.Nat.{_≤_, _<_, _+_, _-_, _^_};
 ghost use lib.Dec.{leb, eqb};
-ghost use lib.ListN.{take, drop};
+ghost use lib.ListN.{take, drop, replicate};
 ghost use Rattle.laws.specs.Lists.{all, many, put, Rising};
 ghost use Rattle.laws.specs.Below.{one?};
-ghost use Rattle.frame.specs.Message.{isTake, counted, stamp, by};
+ghost use Rattle.frame.specs.Message.{blank, isTake, counted, stamp, by};
 ghost use Rattle.post.specs.Record.{inSlots};
 ghost use Rattle.post.specs.Sound.{isBlank};
 ghost use Rattle.post.specs.Settle.{upTo};
@@ -272,16 +272,30 @@ pub(crate) fn leaving(slots: [Message; 62], n: usize, floor: u64, own: u8, takes
     }
 }
 
+// Where to start moving the rest of n messages to the front once k have left: past them where none has.
+fn from(n: usize, k: usize) -> usize
+    ensures { λ r. ⌜ r ≡ cond (eqb k 0) n 0 ⌝ }
+{
+    if k == 0 {
+        return n;
+    }
+    0
+}
+
 // The messages from k to n moved to the front, and zeros after them.
 pub(crate) fn drop_first(slots: [Message; 62], n: usize, k: usize) -> [Message; 62]
-    requires { ⌜ (k ≤ n) × (n ≤ 62) ⌝ }
+    requires { ⌜ (k ≤ n) × (n ≤ 62) × (drop n slots ≡ replicate (62 - n) blank) ⌝ }
     ensures { λ r. ⌜ r ≡ inSlots (drop k (take n slots)) ⌝ }
 {
-    let mut next = [BLANK; 62];
+    let mut next = slots;
     let m = n - k;
-    let mut j = 0;
+    let mut j = from(n, k);
     while j < m {
-        next[j] = slots[k + j];
+        next[j] = next[k + j];
+        j += 1;
+    }
+    while j < n {
+        next[j] = BLANK;
         j += 1;
     }
     next

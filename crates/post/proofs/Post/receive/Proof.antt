@@ -19,11 +19,11 @@ use Rattle.post.specs.declared.Post.{Post}
 use Rattle.post.specs.Sound.{sound}
 use Rattle.post.specs.Settle.{settle}
 use Rattle.post.specs.Calls.{senderRows, turnRows, receiveRows, noted}
-use Rattle.post.specs.Inside.{Countable}
+use Rattle.post.specs.Inside.{Countable, answer}
 use Rattle.post.proofs.Shape.{Kept}
 use Rattle.post.proofs.Accepted.{Accepted, accepted}
 use Rattle.post.proofs.Remaking.{length-mapped}
-use Rattle.post.proofs.Answering.{noted-countable, not-heard, is-heard, is-noted, is-done}
+use Rattle.post.proofs.Answering.{noted-countable, not-heard, is-heard, is-noted}
 use Rattle.post.proofs.Post.receive.Statement.{statement}
 use Rattle.post.proofs.Post.receive.Tie as tie
 
@@ -96,17 +96,14 @@ settled-requires c κs =
     let g = accepted (a .self) (now (a .frame)) (length (now (a .buf))) (sym (c .before .before .before .before .before .before .receive-number .ensures) ∙ c .before .before .before .before .before .if1 .left) in
     subst Countable (sym (c .noted .ensures)) (noted-countable (a .self) (kept (c .before .before .before .before .before .before .before .before .before) (g .sound)) _)
 
-is-grant-requires : tie.Need-is-grant-requires
-is-grant-requires c κs = search needs
-
 returns-3 : tie.Need-returns-3
 returns-3 c =
-    let a = c .before .before .before .before .before .before .before .before .before .before .before .args in
+    let a = c .before .before .before .before .before .before .before .before .before .before .args in
     let s = now (a .frame) in
-    let e = same s _ (c .before .before .before .before .before .before .split .ensures) in
-    is-noted (a .self) (receiveRows (a .self) s (length (now (a .buf)))) (c .before .before .before .before .before .before .before .before .receive-number .ensures) (fieldsOf s .message) _ (c .before .before .before .before .before .before .before .if1 .left)
-    (ap counted (sym e) ∙ sym (c .before .before .before .before .is-counted .ensures) ∙ c .before .before .before .if2 .left)
-    (is-done (a .self) _ _ _ _ (c .before .settled .ensures ∙ ap settle (c .before .before .noted .ensures ∙ ap (noted (a .self)) e)) (c .is-grant .ensures))
+    let e = same s _ (c .before .before .before .before .before .split .ensures) in
+    is-noted (a .self) (receiveRows (a .self) s (length (now (a .buf)))) (c .before .before .before .before .before .before .before .receive-number .ensures) (fieldsOf s .message) _ (c .before .before .before .before .before .before .if1 .left)
+    (ap counted (sym e) ∙ sym (c .before .before .before .is-counted .ensures) ∙ c .before .before .if2 .left)
+    (c .settled .ensures ∙ ap (λ (x : Post). answer (a .self .phase) (settle x) false) (c .before .noted .ensures ∙ ap (noted (a .self)) e))
 
 pub receive-spec : {M : Type 1} → statement M
 receive-spec =
@@ -122,5 +119,4 @@ receive-spec =
     returns-2
     noted-requires
     settled-requires
-    is-grant-requires
     returns-3)
