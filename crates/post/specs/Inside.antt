@@ -12,6 +12,7 @@ use Rattle.post.specs.declared.Post.{Post}
 use Rattle.post.specs.declared.Answer.{Answer}
 use Rattle.post.specs.declared.slots.Seen.{Seen}
 use Rattle.post.specs.declared.slots.Gone.{Gone}
+use Rattle.post.specs.Record.{waitingOf}
 use Rattle.post.specs.Settle.{ownNumber}
 use Rattle.post.specs.Sound.{fair, rises, endKind}
 
@@ -22,6 +23,11 @@ pub record Looked (posts own : ℕ) (last : List ℕ) (t : ℕ) (ms : List Messa
   pub takes : seen .orderly ≡ true → seen .takes ≡ many (λ m. by own m && isTake m) ms
   pub returns : seen .orderly ≡ true → seen .returns ≡ many (λ m. by own m && isReturn m) ms
   pub end : seen .orderly ≡ true → seen .end ≡ endKind own 0 ms
+
+-- a look over a record: whether its rules hold, and how many of each sender wait
+pub record Checked (p : Post) (rules : Bool) (seen : Seen) : Type 0 where
+  pub holds : seen .orderly ≡ rules
+  pub counts : seen .orderly ≡ true → (q : ℕ) → q < 16 → getD (seen .counts) q 0 ≡ many (by q) (waitingOf p)
 
 -- what leaves, after so many takes
 pub record Left (own before : ℕ) (ms : List Message) (gone : Gone) : Type 0 where

@@ -77,7 +77,7 @@ fn end_kind(end: u8, own: u8, m: Message) -> u8
     end
 }
 
-fn disorderly() -> Seen
+pub(crate) fn disorderly() -> Seen
     ensures { λ r. ⌜ r .orderly ≡ false ⌝ }
 {
     Seen {
@@ -160,30 +160,6 @@ pub(crate) fn blank_from(slots: [Message; 62], n: usize) -> bool
         i += 1;
     }
     true
-}
-
-fn one_of(n: u8, q: u8, m: Message) -> u8
-    requires { ⌜ n < 255 ⌝ }
-    ensures { λ r. ⌜ r ≡ n + one? (by q m) ⌝ }
-{
-    if m.sender == q {
-        return n + 1;
-    }
-    n
-}
-
-// How many of the first n are of the sender q.
-pub(crate) fn count_of(slots: [Message; 62], n: usize, q: u8) -> u8
-    requires { ⌜ n ≤ 62 ⌝ }
-    ensures { λ r. ⌜ r ≡ many (by q) (take n slots) ⌝ }
-{
-    let mut k = 0u8;
-    let mut i = 0;
-    while i < n {
-        k = one_of(k, q, slots[i]);
-        i += 1;
-    }
-    k
 }
 
 // The message m among the first n, whose stamps rise: from the newest down, those above it move one place up.

@@ -45,28 +45,22 @@ returns-4 c =
     let yes = sym (c .before .before .before .before .before .is-counted .ensures) ∙ not-false _ (c .before .before .before .before .if2 .left) in
     off _ _ _ (lt-leb _ _ (c .before .before .before .before .before .before .if1 .left)) (on _ _ _ (both-on _ _ yes (two-on (leb lastCounter (c .before .before .before .before .before .before .before .before .before .before .args .self .clock)) _ (le-leb _ _ (c .if4 .taken)))) refl)
 
-cast-count-of : tie.Need-cast-count-of
-cast-count-of c = search needs
-
-count-of-requires : tie.Need-count-of-requires
-count-of-requires c κs = sound-has _ (c .before .before .before .before .before .before .before .before .before .before .before .before .pre .0) .waits
-
 returns-5 : tie.Need-returns-5
 unfolding turnRows
 returns-5 c =
-    let m = c .before .before .before .before .before .before .before .before .before .before .before .before .before .before .args .m in
-    let yes = sym (c .before .before .before .before .before .before .before .before .before .is-counted .ensures) ∙ not-false _ (c .before .before .before .before .before .before .before .before .if2 .left) in
-    off _ _ _ (lt-leb _ _ (c .before .before .before .before .before .before .before .before .before .before .if1 .left))
-    (off _ _ _ (two-off (counted m) _ (both-off _ _ (lt-leb _ _ (c .before .before .before .before .before .before .if3 .left)) (lt-leb _ _ (c .before .before .before .before .if4 .left))))
-    (on _ _ _ (both-on _ _ yes (ap (leb 4) (sym (c .before .count-of .ensures)) ∙ le-leb _ _ (c .if5 .taken))) refl))
+    let a = c .before .before .before .before .before .before .before .before .before .before .before in
+    let yes = sym (c .before .before .before .before .before .before .is-counted .ensures) ∙ not-false _ (c .before .before .before .before .before .if2 .left) in
+    off _ _ _ (lt-leb _ _ (c .before .before .before .before .before .before .before .if1 .left))
+    (off _ _ _ (two-off (counted (a .args .m)) _ (both-off _ _ (lt-leb _ _ (c .before .before .before .if3 .left)) (lt-leb _ _ (c .before .if4 .left))))
+    (on _ _ _ (both-on _ _ yes (ap (leb 4) (sym (a .pre .2)) ∙ le-leb _ _ (c .if5 .taken))) refl))
 
 returns-6 : tie.Need-returns-6
 unfolding turnRows
 returns-6 c =
-    let m = c .before .before .before .before .before .before .before .before .before .before .before .before .before .before .args .m in
-    off _ _ _ (lt-leb _ _ (c .before .before .before .before .before .before .before .before .before .before .if1 .left))
-    (off _ _ _ (two-off (counted m) _ (both-off _ _ (lt-leb _ _ (c .before .before .before .before .before .before .if3 .left)) (lt-leb _ _ (c .before .before .before .before .if4 .left))))
-    (off _ _ _ (two-off (counted m) _ (ap (leb 4) (sym (c .before .count-of .ensures)) ∙ lt-leb _ _ (c .if5 .left))) refl))
+    let a = c .before .before .before .before .before .before .before .before .before .before .before in
+    off _ _ _ (lt-leb _ _ (c .before .before .before .before .before .before .before .if1 .left))
+    (off _ _ _ (two-off (counted (a .args .m)) _ (both-off _ _ (lt-leb _ _ (c .before .before .before .if3 .left)) (lt-leb _ _ (c .before .if4 .left))))
+    (off _ _ _ (two-off (counted (a .args .m)) _ (ap (leb 4) (sym (a .pre .2)) ∙ lt-leb _ _ (c .if5 .left))) refl))
 
 pub turn-number-spec : {M : Type 1} → statement M
 turn-number-spec =
@@ -80,7 +74,5 @@ turn-number-spec =
     returns-2
     returns-3
     returns-4
-    cast-count-of
-    count-of-requires
     returns-5
     returns-6)
