@@ -21,23 +21,8 @@ use Rattle.post.proofs.Post.accept.Tie as tie
 kept : (c : tie.Start) → Kept (c .args .self)
 kept c = record { sound = c .pre .0; shape = record { last = search needs; slots = search (length-mapped, needs) }; width = search needs }
 
-larger-requires : tie.Need-larger-requires
-larger-requires c κs = search needs
-
-add-t6 : tie.Need-add-t6
-add-t6 c = search needs
-
-write-requires : tie.Need-write-requires
-write-requires c κs = search needs
-
-came-requires : tie.Need-came-requires
-came-requires c κs = search needs
-
 settled-requires : tie.Need-settled-requires
 settled-requires c κs = subst Countable (sym (c .came .ensures)) (came-countable _ (kept (c .before .before .before .before .before .before .before)) _)
-
-same-length : tie.Need-same-length
-same-length c = search needs
 
 returns : tie.Need-returns
 returns c =
@@ -56,10 +41,10 @@ pub accept-spec : {M : Type 1} → statement M
 accept-spec =
     tie.close
     (tie.spec
-    larger-requires
-    add-t6
-    write-requires
-    came-requires
+    (λ c κs. search needs)
+    (λ c. search needs)
+    (λ c κs. search needs)
+    (λ c κs. search needs)
     settled-requires
-    same-length
+    (λ c. search needs)
     returns)

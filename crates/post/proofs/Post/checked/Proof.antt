@@ -7,12 +7,6 @@ use Rattle.post.proofs.RowsSound.{fails}
 use Rattle.post.proofs.Post.checked.Statement.{statement}
 use Rattle.post.proofs.Post.checked.Tie as tie
 
-numbers-sound-requires : tie.Need-numbers-sound-requires
-numbers-sound-requires c κs = search needs
-
-disorderly-requires : tie.Need-disorderly-requires
-disorderly-requires c κs = search needs
-
 returns : tie.Need-returns
 unfolding sound
 returns c = fails _ (c .disorderly .ensures) (and-fails _ _ (sym (c .before .before .numbers-sound .ensures) ∙ not-true _ (c .before .if1 .taken)) refl)
@@ -20,20 +14,11 @@ returns c = fails _ (c .disorderly .ensures) (and-fails _ _ (sym (c .before .bef
 slots-checked-requires : tie.Need-slots-checked-requires
 slots-checked-requires c κs = sym (c .before .numbers-sound .ensures) ∙ not-false _ (c .if1 .left)
 
-disorderly-requires-2 : tie.Need-disorderly-requires-2
-disorderly-requires-2 c κs = search needs
-
 returns-2 : tie.Need-returns-2
 unfolding sound
 returns-2 c =
     fails _ (c .disorderly2 .ensures)
     (and-first _ _ (sym (c .before .before .before .before .before .numbers-sound .ensures) ∙ not-false _ (c .before .before .before .before .if1 .left)) (and-fails _ _ (sym (c .before .before .before .slots-checked .ensures .holds) ∙ not-true _ (c .before .if2 .taken)) refl))
-
-counts-sound-requires : tie.Need-counts-sound-requires
-counts-sound-requires c κs = search needs
-
-disorderly-requires-3 : tie.Need-disorderly-requires-3
-disorderly-requires-3 c κs = search needs
 
 returns-3 : tie.Need-returns-3
 unfolding sound
@@ -56,13 +41,13 @@ pub checked-spec : {M : Type 1} → statement M
 checked-spec =
     tie.close
     (tie.spec
-    numbers-sound-requires
-    disorderly-requires
+    (λ c κs. search needs)
+    (λ c κs. search needs)
     returns
     slots-checked-requires
-    disorderly-requires-2
+    (λ c κs. search needs)
     returns-2
-    counts-sound-requires
-    disorderly-requires-3
+    (λ c κs. search needs)
+    (λ c κs. search needs)
     returns-3
     returns-4)

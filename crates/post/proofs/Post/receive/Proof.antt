@@ -38,22 +38,10 @@ room : (p : Post) (s : List ℕ) (n : ℕ) → refusal (receiveRows p s n) ≡ 0
 unfolding receiveRows formRows senderRows turnRows
 room p s n e = ltb-false n 12 (quiet (receiveRows p s n) tt e .1 .0)
 
-receive-number-requires : tie.Need-receive-number-requires
-receive-number-requires c κs = search needs
-
-refused-requires : tie.Need-refused-requires
-refused-requires c κs = search needs
-
 returns : tie.Need-returns
 returns c =
     let a = c .before .before .before .before .before .args in
     not-heard (a .self) (receiveRows (a .self) (now (a .frame)) (length (now (a .buf)))) (c .before .before .receive-number .ensures) (fieldsOf (now (a .frame)) .message) _ (c .before .if1 .taken) (c .refused .ensures)
-
-split-requires : tie.Need-split-requires
-split-requires c κs = search needs
-
-is-counted-requires : tie.Need-is-counted-requires
-is-counted-requires c κs = search needs
 
 accept-requires : tie.Need-accept-requires
 accept-requires c κs =
@@ -70,9 +58,6 @@ accept-requires c κs =
       rw e (omega arith),
       room (a .self) s _ z,
     )
-
-same-length : tie.Need-same-length
-same-length c = search needs
 
 returns-2 : tie.Need-returns-2
 returns-2 c =
@@ -109,13 +94,13 @@ pub receive-spec : {M : Type 1} → statement M
 receive-spec =
     tie.close
     (tie.spec
-    receive-number-requires
-    refused-requires
+    (λ c κs. search needs)
+    (λ c κs. search needs)
     returns
-    split-requires
-    is-counted-requires
+    (λ c κs. search needs)
+    (λ c κs. search needs)
     accept-requires
-    same-length
+    (λ c. search needs)
     returns-2
     noted-requires
     settled-requires

@@ -25,9 +25,6 @@ known c =
     let h = sound-has _ t .posts-high in
     (t, l, omega arith)
 
-checked-requires : tie.Need-checked-requires
-checked-requires c κs = search needs
-
 returns : tie.Need-returns
 unfolding receiveRows
 returns c = on _ _ _ (ap not (sym (c .before .before .checked .ensures .holds)) ∙ c .if1 .taken) refl
@@ -36,26 +33,14 @@ returns-2 : tie.Need-returns-2
 unfolding receiveRows
 returns-2 c = off _ _ _ (well (c .before)) (on _ _ _ (lt-ltb _ _ (c .if2 .taken)) refl)
 
-split-requires : tie.Need-split-requires
-split-requires c κs = search needs
-
-form-number-requires : tie.Need-form-number-requires
-form-number-requires c κs = search needs
-
 returns-3 : tie.Need-returns-3
 returns-3 c = no-form _ _ _ _ (c .before .before .split .ensures) (well (c .before .before .before .before)) (c .before .before .before .if2 .left) (c .before .form-number .ensures) (c .if3 .taken)
 
 returns-4 : tie.Need-returns-4
 returns-4 c = elsewhere _ _ _ _ (c .before .before .before .before .before .split .ensures) (well (c .before .before .before .before .before .before .before)) (c .before .before .before .before .before .before .if2 .left) (c .before .before .before .before .form-number .ensures) (c .before .before .before .if3 .left) (c .if4 .taken)
 
-sender-number-requires : tie.Need-sender-number-requires
-sender-number-requires c κs = search needs
-
 returns-5 : tie.Need-returns-5
 returns-5 c = no-sender _ _ _ _ (c .before .before .before .before .before .before .before .before .split .ensures) (well (c .before .before .before .before .before .before .before .before .before .before)) (c .before .before .before .before .before .before .before .before .before .if2 .left) (c .before .before .before .before .before .before .before .form-number .ensures) (c .before .before .before .before .before .before .if3 .left) (c .before .before .before .if4 .left) (c .before .sender-number .ensures) (c .if5 .taken)
-
-cast-from : tie.Need-cast-from
-cast-from c = search needs
 
 array-read-turn-number : tie.Need-array-read-turn-number
 array-read-turn-number c = known (c .before .before) .2
@@ -70,16 +55,16 @@ pub receive-number-spec : {M : Type 1} → statement M
 receive-number-spec =
     tie.close
     (tie.spec
-    checked-requires
+    (λ c κs. search needs)
     returns
     returns-2
-    split-requires
-    form-number-requires
+    (λ c κs. search needs)
+    (λ c κs. search needs)
     returns-3
     returns-4
-    sender-number-requires
+    (λ c κs. search needs)
     returns-5
-    cast-from
+    (λ c. search needs)
     array-read-turn-number
     turn-number-requires
     returns-6)

@@ -16,20 +16,8 @@ use Rattle.post.proofs.Post.say.Tie as tie
 kept : (c : tie.Start) → Kept (c .args .self)
 kept c = record { sound = c .pre .0; shape = record { last = search needs; slots = search (length-mapped, needs) }; width = search needs }
 
-add-t6 : tie.Need-add-t6
-add-t6 c = search needs
-
-write-requires : tie.Need-write-requires
-write-requires c κs = search needs
-
-spoken-requires : tie.Need-spoken-requires
-spoken-requires c κs = search needs
-
 settled-requires : tie.Need-settled-requires
 settled-requires c κs = subst Countable (sym (c .spoken .ensures)) (spoken-countable _ (kept (c .before .before .before .before .before .before .before)) _ _)
-
-same-length : tie.Need-same-length
-same-length c = search needs
 
 returns : tie.Need-returns
 returns c =
@@ -44,4 +32,4 @@ returns c =
 
 pub say-spec : {M : Type 1} → statement M
 say-spec =
-    tie.close (tie.spec add-t6 write-requires spoken-requires settled-requires same-length returns)
+    tie.close (tie.spec (λ c. search needs) (λ c κs. search needs) (λ c κs. search needs) settled-requires (λ c. search needs) returns)

@@ -31,47 +31,17 @@ few c =
     let p = c .before .before .before .before .before .before .pre in
     (omega (arith, g .count), omega (arith, g .returns, p .returns, p .waits))
 
-cast-n : tie.Need-cast-n
-cast-n c = search needs
-
-cast-floor : tie.Need-cast-floor
-cast-floor c = search needs
-
-cast-floor-2 : tie.Need-cast-floor-2
-cast-floor-2 c = search needs
-
-floor-requires : tie.Need-floor-requires
-floor-requires c κs = search needs
-
-leaving-requires : tie.Need-leaving-requires
-leaving-requires c κs = search needs
-
 drop-first-requires : tie.Need-drop-first-requires
 drop-first-requires c κs = (few c .0, c .before .before .before .before .before .before .pre .waits, c .before .before .before .before .before .before .pre .blanks)
 
 add-returns : tie.Need-add-returns
 add-returns c = let f = few (c .before .before .before) in search needs
 
-order-after-requires : tie.Need-order-after-requires
-order-after-requires c κs = search needs
-
-cast-phase-after : tie.Need-cast-phase-after
-cast-phase-after c = search needs
-
 add-phase-after : tie.Need-add-phase-after
 add-phase-after c = let f = few (c .before .before .before .before .before) in search needs
 
-phase-after-requires : tie.Need-phase-after-requires
-phase-after-requires c κs = search needs
-
-is-grant-requires : tie.Need-is-grant-requires
-is-grant-requires c κs = search needs
-
 sub-self : tie.Need-sub-self
 sub-self c = let f = few (c .before .before .before .before .before .before .before) in search needs
-
-cast-self : tie.Need-cast-self
-cast-self c = search needs
 
 returns : tie.Need-returns
 returns c =
@@ -84,18 +54,18 @@ pub settled-spec : {M : Type 1} → statement M
 settled-spec =
     tie.close
     (tie.spec
-    cast-n
-    cast-floor
-    cast-floor-2
-    floor-requires
-    leaving-requires
+    (λ c. search needs)
+    (λ c. search needs)
+    (λ c. search needs)
+    (λ c κs. search needs)
+    (λ c κs. search needs)
     drop-first-requires
     add-returns
-    order-after-requires
-    cast-phase-after
+    (λ c κs. search needs)
+    (λ c. search needs)
     add-phase-after
-    phase-after-requires
-    is-grant-requires
+    (λ c κs. search needs)
+    (λ c κs. search needs)
     sub-self
-    cast-self
+    (λ c. search needs)
     returns)

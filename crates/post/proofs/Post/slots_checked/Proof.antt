@@ -13,32 +13,14 @@ use Rattle.post.proofs.Post.slots_checked.Tie as tie
 looked : (c : tie.After-look) → let p = c .before .before .before .before .before .before .before .args .self in Looked (p .posts) (p .own) (p .last) (floor p) (waitingOf p) (c .look .result)
 looked c = looked-floor _ _ (c .before .floor .ensures) (c .look .ensures)
 
-cast-n : tie.Need-cast-n
-cast-n c = search needs
-
-cast-floor : tie.Need-cast-floor
-cast-floor c = search needs
-
-cast-floor-2 : tie.Need-cast-floor-2
-cast-floor-2 c = search needs
-
 floor-requires : tie.Need-floor-requires
 floor-requires c κs = numbers-has _ (c .before .before .before .before .before .pre) .posts
 
 look-requires : tie.Need-look-requires
 look-requires c κs = let h = numbers-has _ (c .before .before .before .before .before .before .pre) in (h .waits, h .posts)
 
-disorderly-requires : tie.Need-disorderly-requires
-disorderly-requires c κs = search needs
-
 returns : tie.Need-returns
 returns c = fails _ (c .disorderly .ensures) (disorder _ _ (looked (c .before .before .before)) (not-true _ (c .before .if1 .taken)))
-
-is-crowd-requires : tie.Need-is-crowd-requires
-is-crowd-requires c κs = search needs
-
-disorderly-requires-2 : tie.Need-disorderly-requires-2
-disorderly-requires-2 c κs = search needs
 
 returns-2 : tie.Need-returns-2
 returns-2 c =
@@ -47,9 +29,6 @@ returns-2 c =
 
 blank-from-requires : tie.Need-blank-from-requires
 blank-from-requires c κs = numbers-has _ (c .before .before .before .before .before .before .before .before .before .before .before .pre) .waits
-
-disorderly-requires-3 : tie.Need-disorderly-requires-3
-disorderly-requires-3 c κs = search needs
 
 returns-3 : tie.Need-returns-3
 returns-3 c =
@@ -60,9 +39,6 @@ returns-3 c =
 few-requires : tie.Need-few-requires
 few-requires c κs = numbers-has _ (c .before .before .before .before .before .before .before .before .before .before .before .before .before .before .pre) .posts
 
-disorderly-requires-4 : tie.Need-disorderly-requires-4
-disorderly-requires-4 c κs = search needs
-
 returns-4 : tie.Need-returns-4
 returns-4 c =
     let w = looked (c .before .before .before .before .before .before .before .before .before .before) in
@@ -72,12 +48,6 @@ returns-4 c =
     (and-first _ _ (crowd _ _ (sym (c .before .before .before .before .before .before .before .is-crowd .ensures) ∙ c .before .before .before .before .before .before .if2 .left))
     (and-first _ _ (sym (c .before .before .before .before .before .blank-from .ensures) ∙ not-false _ (c .before .before .before .before .if3 .left))
     (and-fails _ _ (sym (few-is _ _ w y (numbers-has _ (c .before .before .before .before .before .before .before .before .before .before .before .before .before .before .before .before .before .pre) .posts) (c .before .before .few .ensures)) ∙ not-true _ (c .before .if4 .taken)) refl))))
-
-own-fits-requires : tie.Need-own-fits-requires
-own-fits-requires c κs = search needs
-
-disorderly-requires-5 : tie.Need-disorderly-requires-5
-disorderly-requires-5 c κs = search needs
 
 returns-5 : tie.Need-returns-5
 returns-5 c =
@@ -107,23 +77,23 @@ pub slots-checked-spec : {M : Type 1} → statement M
 slots-checked-spec =
     tie.close
     (tie.spec
-    cast-n
-    cast-floor
-    cast-floor-2
+    (λ c. search needs)
+    (λ c. search needs)
+    (λ c. search needs)
     floor-requires
     look-requires
-    disorderly-requires
+    (λ c κs. search needs)
     returns
-    is-crowd-requires
-    disorderly-requires-2
+    (λ c κs. search needs)
+    (λ c κs. search needs)
     returns-2
     blank-from-requires
-    disorderly-requires-3
+    (λ c κs. search needs)
     returns-3
     few-requires
-    disorderly-requires-4
+    (λ c κs. search needs)
     returns-4
-    own-fits-requires
-    disorderly-requires-5
+    (λ c κs. search needs)
+    (λ c κs. search needs)
     returns-5
     returns-6)

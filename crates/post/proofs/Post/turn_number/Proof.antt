@@ -11,21 +11,12 @@ use Rattle.post.proofs.SoundFacts.{sound-has}
 use Rattle.post.proofs.Post.turn_number.Statement.{statement}
 use Rattle.post.proofs.Post.turn_number.Tie as tie
 
-cast-from : tie.Need-cast-from
-cast-from c = search needs
-
-mul-if1 : tie.Need-mul-if1
-mul-if1 c = search needs
-
 array-read-if1 : tie.Need-array-read-if1
 array-read-if1 c = let h = sound-has _ (c .before .before .pre .0) .posts-high in let m = c .before .before .pre .1 in search needs
 
 returns : tie.Need-returns
 unfolding turnRows
 returns c = on _ _ _ (le-leb _ _ (c .if1 .taken)) refl
-
-is-counted-requires : tie.Need-is-counted-requires
-is-counted-requires c κs = search needs
 
 returns-2 : tie.Need-returns-2
 unfolding turnRows
@@ -66,11 +57,11 @@ pub turn-number-spec : {M : Type 1} → statement M
 turn-number-spec =
     tie.close
     (tie.spec
-    cast-from
-    mul-if1
+    (λ c. search needs)
+    (λ c. search needs)
     array-read-if1
     returns
-    is-counted-requires
+    (λ c κs. search needs)
     returns-2
     returns-3
     returns-4

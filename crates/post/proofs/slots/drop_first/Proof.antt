@@ -30,12 +30,6 @@ abbrev μ-loop2 : tie.MeasureT-loop2
 long : (c : tie.Start Inv-loop μ-loop Inv-loop2 μ-loop2) → length (c .args .slots) ≡ 62
 long c = search needs
 
-sub-m : tie.Need-sub-m Inv-loop μ-loop Inv-loop2 μ-loop2
-sub-m c = search needs
-
-from-requires : tie.Need-from-requires Inv-loop μ-loop Inv-loop2 μ-loop2
-from-requires c κs = search needs
-
 loop-holds : tie.Need-loop-holds Inv-loop μ-loop Inv-loop2 μ-loop2
 loop-holds c =
     let a = c .before .args in
@@ -48,27 +42,6 @@ loop-holds c =
       l,
     )
 
-add-next : tie.Need-add-next Inv-loop μ-loop Inv-loop2 μ-loop2
-add-next c = search needs
-
-mul-next : tie.Need-mul-next Inv-loop μ-loop Inv-loop2 μ-loop2
-mul-next c = search needs
-
-array-copy-out-next : tie.Need-array-copy-out-next Inv-loop μ-loop Inv-loop2 μ-loop2
-array-copy-out-next c = search needs
-
-mul-next-2 : tie.Need-mul-next-2 Inv-loop μ-loop Inv-loop2 μ-loop2
-mul-next-2 c = search needs
-
-array-set-from-next : tie.Need-array-set-from-next Inv-loop μ-loop Inv-loop2 μ-loop2
-array-set-from-next c = search needs
-
-add-j : tie.Need-add-j Inv-loop μ-loop Inv-loop2 μ-loop2
-add-j c = search needs
-
-loop-less : tie.Need-loop-less Inv-loop μ-loop Inv-loop2 μ-loop2
-loop-less c = search needs
-
 loop-again : tie.Need-loop-again Inv-loop μ-loop Inv-loop2 μ-loop2
 loop-again c =
     let a = c .before .before .before .before .args in
@@ -79,18 +52,6 @@ loop-again c =
 
 loop2-holds : tie.Need-loop2-holds Inv-loop μ-loop Inv-loop2 μ-loop2
 loop2-holds c = (λ l h g v. v, c .before .loop .inv .1, omega arith)
-
-mul-next-3 : tie.Need-mul-next-3 Inv-loop μ-loop Inv-loop2 μ-loop2
-mul-next-3 c = search needs
-
-array-set-from-next-2 : tie.Need-array-set-from-next-2 Inv-loop μ-loop Inv-loop2 μ-loop2
-array-set-from-next-2 c = search needs
-
-add-j-2 : tie.Need-add-j-2 Inv-loop μ-loop Inv-loop2 μ-loop2
-add-j-2 c = search needs
-
-loop2-less : tie.Need-loop2-less Inv-loop μ-loop Inv-loop2 μ-loop2
-loop2-less c = search needs
 
 loop2-again : tie.Need-loop2-again Inv-loop μ-loop Inv-loop2 μ-loop2
 loop2-again c =
@@ -118,21 +79,21 @@ drop-first-spec =
     μ-loop
     Inv-loop2
     μ-loop2
-    sub-m
-    from-requires
+    (λ c. search needs)
+    (λ c κs. search needs)
     loop-holds
-    add-next
-    mul-next
-    array-copy-out-next
-    mul-next-2
-    array-set-from-next
-    add-j
-    loop-less
+    (λ c. search needs)
+    (λ c. search needs)
+    (λ c. search needs)
+    (λ c. search needs)
+    (λ c. search needs)
+    (λ c. search needs)
+    (λ c. search needs)
     loop-again
     loop2-holds
-    mul-next-3
-    array-set-from-next-2
-    add-j-2
-    loop2-less
+    (λ c. search needs)
+    (λ c. search needs)
+    (λ c. search needs)
+    (λ c. search needs)
     loop2-again
     returns)
