@@ -1,14 +1,14 @@
--- Arrays shifted one store a turn: a place made free from the newest down, and a part copied to the front. Assumes nothing.
+-- Arrays shifted one store a turn: a place made free from the newest down, and a part moved to the front. Assumes nothing.
 use Prim.Native.Nat.{ℕ, zero, suc, _+_, _-_, _≤_, _<_}
 use mathlib.Core.Path.{_≡_, refl, ap, ap₂, _∙_, sym, subst}
 use mathlib.Core.Logic.{inl, inr}
-use mathlib.Core.List.{List, [], _∷_, _++_, append-assoc}
+use mathlib.Core.List.{List, [], _∷_, _++_, append-assoc, append-nil}
 use native.Mathlib.Omega.{arith}
 use native.Mathlib.Nat.{zero-add}
 use native.Mathlib.Numerals.{add-one}
 use borrow.Author.Tests.{lt-ltb, le-ltb}
-use lib.ListN.{length, getD, take, drop, set, replicate, length-set}
-use lib.Seq.{slice, slice-empty, slice-cons, take-take, take-set-le, drop-set-lt, drop-cons, set-split, getD-take, getD-drop, getD-set-same, length-slice, paste, paste-zero, paste-suc, take-all}
+use lib.ListN.{length, getD, take, drop, set, replicate, length-set, length-append, length-replicate, getD-replicate, take-append-drop, List·getD-append}
+use lib.Seq.{slice, slice-empty, slice-cons, take-take, take-set-le, drop-set-lt, drop-cons, set-split, getD-take, getD-drop, getD-set-same, getD-append-add, length-slice, length-take-le, paste, paste-zero, paste-suc, length-paste, drop-paste, take-all}
 use Rattle.laws.specs.Lists.{In, put}
 
 -- ---- a message put in its place
@@ -74,35 +74,83 @@ module _ {A : Type 0} where
       ∙ ap₂ (λ (x y : List A). x ++ s ∷ y) (v .front ∙ sym (take-take i n l h)) (ap (λ (x : ℕ). drop x cur) (sym (add-one i)) ∙ v .back)
       ∙ sym (append-assoc (take i (take n l)) (s ∷ slice i n l) (drop (n + 1) l))
 
--- ---- a part copied to the front
+-- ---- a part moved to the front, and one value after it
 
--- d with the first j of the part of l from k to n, after j stores
-pub record Copied {A : Type 0} (d l : List A) (k n : ℕ) (cur : List A) (j : ℕ) : Type 0 where
-  pub far : j ≤ n - k
-  pub is : cur ≡ paste d 0 (slice k n l) j
+-- what is to stand in the first n places
+abbrev pub front : {A : Type 0} → A → List A → ℕ → ℕ → List A
+front z l k n = slice k n l ++ replicate k z
 
-module _ {A : Type 0} (d l : List A) (k n : ℕ) (m : n ≤ length l) where
-  pub none-copied : Copied d l k n d 0
-  none-copied = record { far = omega arith; is = paste-zero d 0 (slice k n l) }
+-- l with the first j of them stored
+pub record Moved {A : Type 0} (z : A) (l : List A) (k n : ℕ) (cur : List A) (j : ℕ) : Type 0 where
+  pub far : j ≤ n
+  pub is : cur ≡ paste l 0 (front z l k n) j
 
-  pub one-copied : (cur : List A) (j : ℕ) (z : A) → n - k ≤ length d → j < n - k → Copied d l k n cur j → Copied d l k n (set cur j (getD l (k + j) z)) (j + 1)
-  one-copied cur j z h q v =
-      let s = slice k n l in
-      let e : length s ≡ n - k = length-slice k n l m in
-      record {
-        far = omega arith;
-        is =
-            ap₂ (λ (x : List A) (y : A). set x j y) (v .is) (sym (getD-drop k (take n l) j z ∙ getD-take n l (k + j) z (omega arith)))
-            ∙ ap (λ (x : ℕ). set (paste d 0 s j) x (getD s j z)) (sym (zero-add j))
-            ∙ paste-suc d 0 s j z (omega arith) (omega arith)
-            ∙ ap (paste d 0 s) (sym (add-one j));
-      }
+module _ {A : Type 0} (z : A) (l : List A) (k n : ℕ) (h : k ≤ n) (m : n ≤ length l) where
+  new-length : length (front z l k n) ≡ n
+  new-length = let a = length-append (slice k n l) (replicate k z) in let b = length-slice k n l m in let c = length-replicate k z in omega arith
 
-  pub all-copied : (cur : List A) (j : ℕ) → n - k ≤ j → Copied d l k n cur j → cur ≡ slice k n l ++ drop (n - k) d
-  all-copied cur j q v =
-      let s = slice k n l in
-      let e : length s ≡ n - k = length-slice k n l m in
-      v .is ∙ ap₂ (λ (x : List A) (y : ℕ). x ++ drop y d) (take-all j s (let f = v .far in omega arith)) (let f = v .far in let g : 0 + j ≡ n - k = omega arith in g)
+  pub none-moved : Moved z l k n l 0
+  none-moved = record { far = omega arith; is = paste-zero l 0 (front z l k n) }
+
+  -- nothing to move
+  pub all-there : k ≡ 0 → Moved z l k n l n
+  all-there e = record {
+    far = omega arith;
+    is =
+        sym (take-append-drop n l)
+        ∙ ap₂ (λ (x : List A) (y : ℕ). x ++ drop y l)
+        (sym (take-all n (take n l ++ []) (let a = append-nil (take n l) in let b = ap length a in let c = length-take-le n l m in omega arith) ∙ append-nil (take n l)) ∙ ap (λ (x : ℕ). take n (slice x n l ++ replicate x z)) (sym e))
+        (sym (zero-add n));
+  }
+
+  module _ {cur : List A} {j : ℕ} (v : Moved z l k n cur j) where
+    stored : (a : A) → j < n → a ≡ getD (front z l k n) j z → Moved z l k n (set cur j a) (j + 1)
+    stored a q e =
+        let f = new-length in
+        record {
+          far = omega arith;
+          is =
+              ap₂ (λ (x : List A) (y : A). set x j y) (v .is) e
+              ∙ ap (λ (x : ℕ). set (paste l 0 (front z l k n) j) x (getD (front z l k n) j z)) (sym (zero-add j))
+              ∙ paste-suc l 0 (front z l k n) j z (omega arith) (omega arith)
+              ∙ ap (paste l 0 (front z l k n)) (sym (add-one j));
+        }
+
+    pub length-moved : length cur ≡ length l
+    length-moved = let f = new-length in let g = v .far in ap length (v .is) ∙ length-paste l 0 (front z l k n) j (omega arith) (omega arith)
+
+    -- one more moved, out of its old place
+    pub one-moved : j < n - k → Moved z l k n (set cur j (getD cur (k + j) z)) (j + 1)
+    one-moved q =
+        let f = new-length in
+        let s = slice k n l in
+        let b = length-slice k n l m in
+        stored (getD cur (k + j) z) (omega arith)
+        (let e : k + j ≡ 0 + j + k = omega arith in
+        ap₂ (λ (x : List A) (y : ℕ). getD x y z) (v .is) e
+        ∙ sym (getD-drop (0 + j) (paste l 0 (front z l k n) j) k z)
+        ∙ ap (λ (x : List A). getD x k z) (drop-paste l 0 (front z l k n) j (omega arith) (omega arith))
+        ∙ getD-drop (0 + j) l k z
+        ∙ ap (λ (x : ℕ). getD l x z) (sym e)
+        ∙ sym (getD-take n l (k + j) z (omega arith))
+        ∙ sym (getD-drop k (take n l) j z)
+        ∙ sym (List·getD-append s (replicate k z) z j (omega arith)))
+
+    -- one more of the value
+    pub one-cleared : n - k ≤ j → j < n → Moved z l k n (set cur j z) (j + 1)
+    one-cleared q r =
+        let s = slice k n l in
+        let b = length-slice k n l m in
+        let e : j ≡ length s + (j - length s) = omega arith in
+        stored z r
+        (sym (ap (λ (x : ℕ). getD (front z l k n) x z) e ∙ getD-append-add s (replicate k z) (j - length s) z ∙ getD-replicate k (j - length s) z z (omega arith)))
+
+    pub all-moved : n ≤ j → cur ≡ front z l k n ++ drop n l
+    all-moved q =
+        let f = new-length in
+        let g = v .far in
+        let e : 0 + j ≡ n = omega arith in
+        v .is ∙ ap₂ (λ (x : List A) (y : ℕ). x ++ drop y l) (take-all j (front z l k n) (omega arith)) e
 
 pub drop-replicate : {A : Type 0} (i n : ℕ) (a : A) → drop i (replicate n a) ≡ replicate (n - i) a
 drop-replicate zero n a = ap (λ (x : ℕ). replicate x a) (let g : n ≡ n - 0 = omega arith in g)

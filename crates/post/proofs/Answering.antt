@@ -2,25 +2,26 @@
 use mathlib.Core.Path.{_≡_, refl, ap, _∙_, sym}
 use mathlib.Core.Bool.{Bool, true, false, not, _&&_}
 use mathlib.Core.List.{List, _++_}
-use Prim.Native.Nat.{ℕ, _+_, _≤_}
+use Prim.Native.Nat.{ℕ, _+_, _-_, _≤_}
 use native.Mathlib.Omega.{arith}
 use borrow.Author.Tests.{eq-eqb, ne-eqb, le-ltb}
 use lib.Dec.{T, eqb}
 use lib.Ieee.Bits.{is-true}
-use lib.ListN.{length, drop}
+use lib.ListN.{length, drop, replicate}
+use lib.Seq.{drop-at}
 use Rattle.laws.specs.Ladder.{Row, refusal}
 use Rattle.laws.specs.Lists.{put}
 use Rattle.laws.proofs.Ladders.{on, off, not-off, unrefused}
 use Rattle.laws.proofs.CountLaws.{length-put}
 use Rattle.frame.specs.declared.Message.{Message}
-use Rattle.frame.specs.Message.{msg, known, counted, stamp}
+use Rattle.frame.specs.Message.{blank, msg, known, counted, stamp}
 use Rattle.frame.specs.Frame.{frame, messageRows, writeRows, writeNo, bytesAfter, Written}
 use Rattle.post.specs.declared.Post.{Post}
 use Rattle.post.specs.declared.Answer.{Answer}
 use Rattle.post.specs.Record.{waitingOf, remade}
 use Rattle.post.specs.Settle.{settle}
 use Rattle.post.specs.Calls.{spoken, came, noted, ackClock, done, refused, over, Gives, sent, sentBytes, heardFrom, heardBytes}
-use Rattle.post.specs.Inside.{Countable}
+use Rattle.post.specs.Inside.{Countable, answer}
 use Rattle.post.proofs.SoundFacts.{sound-has}
 use Rattle.post.proofs.Shape.{Kept, length-waiting}
 use Rattle.post.proofs.Values.{counts-small}
@@ -34,7 +35,13 @@ module _ (p : Post) (k : Kept p) where
   remade-countable clock last ms phase order h =
       let s = sound-has p (k .sound) in
       let c = counts-small p s (k .width) in
-      record { posts = s .posts-high; waits = h; takes = omega arith; returns = omega arith }
+      record {
+        posts = s .posts-high;
+        waits = h;
+        blanks = drop-at ms (replicate (62 - length ms) blank) (length ms) refl;
+        takes = omega arith;
+        returns = omega arith;
+      }
 
   length-with : (m : Message) → length (put stamp m (waitingOf p)) ≤ 62
   length-with m =
@@ -104,7 +111,7 @@ module _ (p : Post) (rows : List Row) {n : ℕ} (e : n ≡ refusal rows) where
         let f = eq-eqb (refusal rows) 0 (sym e ∙ z) in
         record { gives = on _ _ _ f (off _ _ _ y h); leaves = on _ _ _ f (off _ _ _ y refl) }
 
--- done, from the next record and the grant mark
-pub is-done : (p q next : Post) (wrote g : Bool) → next ≡ q → g ≡ (not (eqb (p .phase) 3) && eqb (next .phase) 3)
-    → record { post = next; number = 0; wrote = wrote; granted = g } ≡ done p q wrote
-is-done p q next wrote g e h = (λ i. record { post = next; number = 0; wrote = wrote; granted = h i }) ∙ ap (λ (x : Post). done p x wrote) e
+-- the answer, from the next record and the grant mark
+pub is-answer : (before : ℕ) (q next : Post) (wrote g : Bool) → next ≡ q → g ≡ (not (eqb before 3) && eqb (next .phase) 3)
+    → record { post = next; number = 0; wrote = wrote; granted = g } ≡ answer before q wrote
+is-answer before q next wrote g e h = (λ i. record { post = next; number = 0; wrote = wrote; granted = h i }) ∙ ap (λ (x : Post). answer before x wrote) e

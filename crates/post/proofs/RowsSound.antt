@@ -14,7 +14,7 @@ use Rattle.frame.specs.Message.{stampOf}
 use Rattle.post.specs.declared.Post.{Post}
 use Rattle.post.specs.declared.slots.Seen.{Seen}
 use Rattle.post.specs.Record.{leastTo, lastOf, waitingOf, floor}
-use Rattle.post.specs.Inside.{Looked}
+use Rattle.post.specs.Inside.{Looked, Checked}
 use Rattle.post.specs.Sound.{absentSilent, clockAbove, fair, rises, noneAlone, isBlank, few, ownFits, ownFew, sumFits, numberRules, slotRules}
 use Rattle.post.proofs.Ranges.{range-is}
 use Rattle.post.proofs.SoundFacts.{each}
@@ -24,6 +24,10 @@ pub lasts-fit : (p : Post) {r : Bool} → r ≡ allTo 16 (λ q. (ltb q (p .posts
     → r ≡ absentSilent p && (clockAbove p && true)
 unfolding absentSilent clockAbove
 lasts-fit p e = e ∙ allTo-both 16 _ _ ∙ ap (λ (x : Bool). absentSilent p && x) (sym (and-true (clockAbove p)))
+
+-- a rule that fails
+pub fails : (p : Post) {rules : Bool} {seen : Seen} → seen .orderly ≡ false → false ≡ rules → Checked p rules seen
+fails p n e = record { holds = n ∙ e; counts = λ y. absurd (false≢true (sym n ∙ y)) }
 
 module _ (p : Post) (seen : Seen) (w : Looked (p .posts) (p .own) (p .last) (floor p) (waitingOf p) seen) where
   -- what the look found wrong fails the row

@@ -1,15 +1,18 @@
 -- What functions inside the crate promise each other, where a record says it best.
 use mathlib.Core.Path.{_≡_}
-use mathlib.Core.Bool.{true, _&&_}
+use mathlib.Core.Bool.{Bool, true, not, _&&_}
 use mathlib.Core.List.{List}
-use Prim.Native.Nat.{ℕ, _+_, _≤_, _<_, _^_}
-use lib.ListN.{length, getD}
+use Prim.Native.Nat.{ℕ, _+_, _-_, _≤_, _<_, _^_}
+use lib.Dec.{eqb}
+use lib.ListN.{length, getD, drop, replicate}
 use Rattle.laws.specs.Lists.{all, many}
 use Rattle.frame.specs.declared.Message.{Message}
-use Rattle.frame.specs.Message.{isTake, isReturn, by}
+use Rattle.frame.specs.Message.{blank, isTake, isReturn, by}
 use Rattle.post.specs.declared.Post.{Post}
+use Rattle.post.specs.declared.Answer.{Answer}
 use Rattle.post.specs.declared.slots.Seen.{Seen}
 use Rattle.post.specs.declared.slots.Gone.{Gone}
+use Rattle.post.specs.Record.{waitingOf}
 use Rattle.post.specs.Settle.{ownNumber}
 use Rattle.post.specs.Sound.{fair, rises, endKind}
 
@@ -21,6 +24,11 @@ pub record Looked (posts own : ℕ) (last : List ℕ) (t : ℕ) (ms : List Messa
   pub returns : seen .orderly ≡ true → seen .returns ≡ many (λ m. by own m && isReturn m) ms
   pub end : seen .orderly ≡ true → seen .end ≡ endKind own 0 ms
 
+-- a look over a record: whether its rules hold, and how many of each sender wait
+pub record Checked (p : Post) (rules : Bool) (seen : Seen) : Type 0 where
+  pub holds : seen .orderly ≡ rules
+  pub counts : seen .orderly ≡ true → (q : ℕ) → q < 16 → getD (seen .counts) q 0 ≡ many (by q) (waitingOf p)
+
 -- what leaves, after so many takes
 pub record Left (own before : ℕ) (ms : List Message) (gone : Gone) : Type 0 where
   pub count : gone .count ≡ length ms
@@ -28,9 +36,14 @@ pub record Left (own before : ℕ) (ms : List Message) (gone : Gone) : Type 0 wh
   pub returns : gone .returns ≡ many isReturn ms
   pub order : gone .order ≡ ownNumber own before ms
 
--- ranges in which what is settled can be counted
+-- what can be settled: ranges in which the counts fit, and unused slots that are zero
 pub record Countable (p : Post) : Type 0 where
   pub posts : p .posts ≤ 16
   pub waits : p .waits ≤ 62
+  pub blanks : drop (p .waits) (p .slots) ≡ replicate (62 - p .waits) blank
   pub takes : p .takes < 2 ^ 62
   pub returns : p .returns < 2 ^ 62
+
+-- what a call that is not refused gives back, from the phase before and the record after
+abbrev pub answer : ℕ → Post → Bool → Answer
+answer before p wrote = record { post = p; number = 0; wrote = wrote; granted = not (eqb before 3) && eqb (p .phase) 3 }

@@ -10,16 +10,15 @@ ghost use Rattle.laws.specs.Below.{allTo, sumTo, bitsTo};
 ghost use Rattle.frame.specs.Message.{stampOf};
 ghost use Rattle.post.specs.Record.{leastTo};
 
+// The most that a last counter can be is the clock, and 0 where there is no post.
 fn fits(posts: u8, clock: u32, q: usize, c: u32) -> bool
     ensures { λ r. ⌜ r ≡ ((ltb q posts || eqb c 0) && leb c clock) ⌝ }
 {
+    let mut most = 0;
     if q < posts as usize {
-        return c <= clock;
+        most = clock;
     }
-    if c != 0 {
-        return false;
-    }
-    c <= clock
+    c <= most
 }
 
 // Those at numbers N and above are 0, and none is above the clock.

@@ -3,6 +3,7 @@ mod lasts;
 mod rules;
 mod slots;
 
+use crate::slots::Seen;
 use frame::Message;
 ghost use mathlib.Core.Path.{_≡_};
 ghost use mathlib.Core.Bool.{true, cond, not, _&&_};
@@ -11,12 +12,13 @@ ghost use Prim.Native.Nat.{_≤_, _<_, _+_, _^_, max};
 ghost use lib.Dec.{eqb, ltb, leb, T};
 ghost use lib.ListN.{length};
 ghost use Rattle.laws.specs.Ladder.{_when_, refusal, every};
-ghost use Rattle.frame.specs.Message.{msg, known, counted, lastCounter, stampOf};
+ghost use Rattle.frame.specs.Message.{msg, known, counted, lastCounter, stampOf, by};
 ghost use Rattle.frame.specs.Frame.{fieldsOf};
-ghost use Rattle.post.specs.Record.{fresh};
+ghost use Rattle.laws.specs.Lists.{many};
+ghost use Rattle.post.specs.Record.{waitingOf, fresh};
 ghost use Rattle.post.specs.Sound.{inRange, numberRules, slotRules, countRules, sound};
 ghost use Rattle.post.specs.Settle.{orderAfter, phaseAfter, settle};
-ghost use Rattle.post.specs.Inside.{Countable};
+ghost use Rattle.post.specs.Inside.{Countable, Checked, answer};
 ghost use Rattle.post.specs.Calls.{started, spoken, came, noted, ackClock, takeRows, returnRows, senderRows, turnRows, receiveRows, done, refused, over, Gives, took, tookBytes, gaveBack, gaveBackBytes, received, receivedBytes, valued, missed};
 
 // Document 01's record, its fields in 01's order and widths.
@@ -179,9 +181,9 @@ impl Post {
         lasts::fit(last, self.posts, self.clock)
     }
 
-    fn slots_sound(self) -> bool
+    fn slots_checked(self) -> Seen
         requires { ⌜ every (numberRules self) ≡ true ⌝ }
-        ensures { λ r. ⌜ r ≡ every (slotRules self) ⌝ }
+        ensures { λ r. ⌜ Checked self (every (slotRules self)) r ⌝ }
     {
         let last = self.last;
         let slots = self.slots;
@@ -189,19 +191,22 @@ impl Post {
         let floor = lasts::floor(last, self.posts as usize, self.own as usize);
         let seen = slots::look(slots, n, last, self.posts, self.own, floor);
         if !seen.orderly {
-            return false;
+            return slots::disorderly();
         }
         if rules::is_crowd(self.posts, self.waits) {
-            return false;
+            return slots::disorderly();
         }
         if !slots::blank_from(slots, n) {
-            return false;
+            return slots::disorderly();
         }
         let counts = seen.counts;
         if !lasts::few(counts, self.posts, self.own) {
-            return false;
+            return slots::disorderly();
         }
-        rules::own_fits(self.phase, seen.takes, seen.returns, seen.end)
+        if !rules::own_fits(self.phase, seen.takes, seen.returns, seen.end) {
+            return slots::disorderly();
+        }
+        seen
     }
 
     fn counts_sound(self) -> bool
@@ -220,17 +225,29 @@ impl Post {
         )
     }
 
+    // Whether document 01's rules hold, and how many of each sender wait.
+    fn checked(self) -> Seen
+        ensures { λ r. ⌜ Checked self (sound self) r ⌝ }
+    {
+        if !self.numbers_sound() {
+            return slots::disorderly();
+        }
+        let seen = self.slots_checked();
+        if !seen.orderly {
+            return slots::disorderly();
+        }
+        if !self.counts_sound() {
+            return slots::disorderly();
+        }
+        seen
+    }
+
     // Document 01's rules hold.
     pub fn sound(self) -> bool
         ensures { λ r. ⌜ r ≡ sound self ⌝ }
     {
-        if !self.numbers_sound() {
-            return false;
-        }
-        if !self.slots_sound() {
-            return false;
-        }
-        self.counts_sound()
+        let seen = self.checked();
+        seen.orderly
     }
 
     // The record with an own take or return, before anything is settled.
@@ -290,10 +307,10 @@ impl Post {
         self
     }
 
-    // The record after what is settled has left the slots and is counted.
-    fn settled(self) -> Self
+    // What a call gives back once what is settled has left the slots and is counted.
+    fn settled(mut self, before: u8, wrote: bool) -> Answer
         requires { ⌜ Countable self ⌝ }
-        ensures { λ r. ⌜ r ≡ settle self ⌝ }
+        ensures { λ r. ⌜ r ≡ answer before (settle self) wrote ⌝ }
     {
         let last = self.last;
         let slots = self.slots;
@@ -306,19 +323,18 @@ impl Post {
         let returns = self.returns + gone.returns;
         let order = order_after(self.phase, self.order, gone.order);
         let phase = phase_after(self.phase, order, self.places as u64 + returns);
-        Self {
-            posts: self.posts,
-            own,
-            feeder: self.feeder,
-            places: self.places,
-            clock: self.clock,
-            last,
-            waits: (n - k) as u8,
-            slots: left,
-            takes: gone.takes,
-            returns,
-            phase,
-            order,
+        let granted = is_grant(before, phase);
+        self.waits = (n - k) as u8;
+        self.slots = left;
+        self.takes = gone.takes;
+        self.returns = returns;
+        self.phase = phase;
+        self.order = order;
+        Answer {
+            post: self,
+            number: 0,
+            wrote,
+            granted,
         }
     }
 
@@ -362,8 +378,9 @@ impl Post {
         0
     }
 
-    fn turn_number(self, m: Message) -> u8
-        requires { ⌜ T (sound self) × (m .sender < self .posts) ⌝ }
+    // The refusals of a message by its turn, where so many of its sender wait.
+    fn turn_number(self, m: Message, count: u8) -> u8
+        requires { ⌜ T (sound self) × (m .sender < self .posts) × (count ≡ many (by (m .sender)) (waitingOf self)) ⌝ }
         ensures { λ r. ⌜ r ≡ refusal (turnRows self m) ⌝ }
     {
         let last = self.last;
@@ -380,8 +397,7 @@ impl Post {
         if LAST <= m.counter {
             return 11;
         }
-        let slots = self.slots;
-        if Self::WAITING <= slots::count_of(slots, self.waits as usize, m.sender) {
+        if Self::WAITING <= count {
             return 12;
         }
         0
@@ -390,7 +406,8 @@ impl Post {
     fn receive_number(self, frame: &[u8], len: usize) -> u8
         ensures { λ r. ⌜ r ≡ refusal (receiveRows self (now (frame .entry)) len) ⌝ }
     {
-        if !self.sound() {
+        let seen = self.checked();
+        if !seen.orderly {
             return 1;
         }
         if len < Self::FRAME {
@@ -409,7 +426,9 @@ impl Post {
         if sender != 0 {
             return sender;
         }
-        self.turn_number(m)
+        let counts = seen.counts;
+        let from = m.sender as usize;
+        self.turn_number(m, counts[from])
     }
 
     fn refused(self, number: u8) -> Answer
@@ -428,20 +447,13 @@ impl Post {
         requires { ⌜ T (sound self) × (self .clock < lastCounter) × T (known kind) × (12 ≤ length (now buf)) ⌝ }
         ensures { λ r. ⌜ Gives (done self (settle (spoken self kind phase)) true) (over self (msg kind (self .own) (self .clock + 1)) (now (buf .entry))) r (now (buf .exit)) ⌝ }
     {
-        let next = self.spoken(kind, phase).settled();
         let m = Message {
             kind,
             sender: self.own,
             counter: self.clock + 1,
         };
         frame::write(buf, self.feeder, m);
-        let granted = is_grant(self.phase, next.phase);
-        Answer {
-            post: next,
-            number: 0,
-            wrote: true,
-            granted,
-        }
+        self.spoken(kind, phase).settled(self.phase, true)
     }
 
     // A truck is plugged in.
@@ -471,20 +483,13 @@ impl Post {
         requires { ⌜ T (sound self) × (m .sender < self .posts) × (max (self .clock) (m .counter) < lastCounter) × (12 ≤ length (now buf)) ⌝ }
         ensures { λ r. ⌜ Gives (done self (settle (came self m)) true) (over self (msg 3 (self .own) (ackClock self m)) (now (buf .entry))) r (now (buf .exit)) ⌝ }
     {
-        let next = self.came(m).settled();
         let ack = Message {
             kind: 3,
             sender: self.own,
             counter: larger(self.clock, m.counter) + 1,
         };
         frame::write(buf, self.feeder, ack);
-        let granted = is_grant(self.phase, next.phase);
-        Answer {
-            post: next,
-            number: 0,
-            wrote: true,
-            granted,
-        }
+        self.came(m).settled(self.phase, true)
     }
 
     // A frame has arrived.
@@ -500,14 +505,7 @@ impl Post {
         if slots::is_counted(m) {
             return self.accept(m, buf);
         }
-        let next = self.noted(m).settled();
-        let granted = is_grant(self.phase, next.phase);
-        Answer {
-            post: next,
-            number: 0,
-            wrote: false,
-            granted,
-        }
+        self.noted(m).settled(self.phase, false)
     }
 
     // K + settled returns - settled takes.

@@ -4,12 +4,12 @@ use frame::Message;
 ghost use mathlib.Core.Path.{_≡_};
 ghost use mathlib.Core.Bool.{false, cond, _&&_};
 ghost use mathlib.Core.List.{_++_};
-ghost use Prim.Native.Nat.{_≤_, _<_, _+_, _^_};
+ghost use Prim.Native.Nat.{_≤_, _<_, _+_, _-_, _^_};
 ghost use lib.Dec.{leb, eqb};
-ghost use lib.ListN.{take, drop};
+ghost use lib.ListN.{take, drop, replicate};
 ghost use Rattle.laws.specs.Lists.{all, many, put, Rising};
 ghost use Rattle.laws.specs.Below.{one?};
-ghost use Rattle.frame.specs.Message.{isTake, counted, stamp, by};
+ghost use Rattle.frame.specs.Message.{blank, isTake, counted, stamp, by};
 ghost use Rattle.post.specs.Record.{inSlots};
 ghost use Rattle.post.specs.Sound.{isBlank};
 ghost use Rattle.post.specs.Settle.{upTo};
@@ -77,7 +77,7 @@ fn end_kind(end: u8, own: u8, m: Message) -> u8
     end
 }
 
-fn disorderly() -> Seen
+pub(crate) fn disorderly() -> Seen
     ensures { λ r. ⌜ r .orderly ≡ false ⌝ }
 {
     Seen {
@@ -160,30 +160,6 @@ pub(crate) fn blank_from(slots: [Message; 62], n: usize) -> bool
         i += 1;
     }
     true
-}
-
-fn one_of(n: u8, q: u8, m: Message) -> u8
-    requires { ⌜ n < 255 ⌝ }
-    ensures { λ r. ⌜ r ≡ n + one? (by q m) ⌝ }
-{
-    if m.sender == q {
-        return n + 1;
-    }
-    n
-}
-
-// How many of the first n are of the sender q.
-pub(crate) fn count_of(slots: [Message; 62], n: usize, q: u8) -> u8
-    requires { ⌜ n ≤ 62 ⌝ }
-    ensures { λ r. ⌜ r ≡ many (by q) (take n slots) ⌝ }
-{
-    let mut k = 0u8;
-    let mut i = 0;
-    while i < n {
-        k = one_of(k, q, slots[i]);
-        i += 1;
-    }
-    k
 }
 
 // The message m among the first n, whose stamps rise: from the newest down, those above it move one place up.
@@ -272,16 +248,30 @@ pub(crate) fn leaving(slots: [Message; 62], n: usize, floor: u64, own: u8, takes
     }
 }
 
+// Where to start moving the rest of n messages to the front once k have left: past them where none has.
+fn from(n: usize, k: usize) -> usize
+    ensures { λ r. ⌜ r ≡ cond (eqb k 0) n 0 ⌝ }
+{
+    if k == 0 {
+        return n;
+    }
+    0
+}
+
 // The messages from k to n moved to the front, and zeros after them.
 pub(crate) fn drop_first(slots: [Message; 62], n: usize, k: usize) -> [Message; 62]
-    requires { ⌜ (k ≤ n) × (n ≤ 62) ⌝ }
+    requires { ⌜ (k ≤ n) × (n ≤ 62) × (drop n slots ≡ replicate (62 - n) blank) ⌝ }
     ensures { λ r. ⌜ r ≡ inSlots (drop k (take n slots)) ⌝ }
 {
-    let mut next = [BLANK; 62];
+    let mut next = slots;
     let m = n - k;
-    let mut j = 0;
+    let mut j = from(n, k);
     while j < m {
-        next[j] = slots[k + j];
+        next[j] = next[k + j];
+        j += 1;
+    }
+    while j < n {
+        next[j] = BLANK;
         j += 1;
     }
     next

@@ -15,32 +15,11 @@ use Rattle.post.proofs.Post.came.Tie as tie
 kept : (c : tie.Start) → Kept (c .args .t1)
 kept c = record { sound = c .pre .0; shape = record { last = search needs; slots = search (length-mapped, needs) }; width = search needs }
 
-larger-requires : tie.Need-larger-requires
-larger-requires c κs = search needs
-
-add-c : tie.Need-add-c
-add-c c = search needs
-
-cast-insert : tie.Need-cast-insert
-cast-insert c = search needs
-
 insert-requires : tie.Need-insert-requires
 insert-requires c κs = let k = kept (c .before .before) in (has-room _ k, sound-has _ (k .sound) .rising)
 
-cast-from : tie.Need-cast-from
-cast-from c = search needs
-
-cast-at : tie.Need-cast-at
-cast-at c = search needs
-
-mul-self : tie.Need-mul-self
-mul-self c = search needs
-
 element-write-self : tie.Need-element-write-self
 element-write-self c = let b = sound-has _ (c .before .before .before .before .pre .0) .posts-high in let m = c .before .before .before .before .pre .1 in search needs
-
-mul-self-2 : tie.Need-mul-self-2
-mul-self-2 c = search needs
 
 element-write-self-2 : tie.Need-element-write-self-2
 element-write-self-2 c = let s = sound-has _ (c .before .before .before .before .pre .0) in let a = s .own in let b = s .posts-high in search needs
@@ -60,15 +39,15 @@ pub came-spec : {M : Type 1} → statement M
 came-spec =
     tie.close
     (tie.spec
-    larger-requires
-    add-c
-    cast-insert
+    (λ c κs. search needs)
+    (λ c. search needs)
+    (λ c. search needs)
     insert-requires
-    cast-from
-    cast-at
-    mul-self
+    (λ c. search needs)
+    (λ c. search needs)
+    (λ c. search needs)
     element-write-self
-    mul-self-2
+    (λ c. search needs)
     element-write-self-2
     add-self
     returns)

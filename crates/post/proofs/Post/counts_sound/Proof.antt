@@ -10,18 +10,9 @@ use Rattle.post.proofs.RowsSound.{sum-is}
 use Rattle.post.proofs.Post.counts_sound.Statement.{statement}
 use Rattle.post.proofs.Post.counts_sound.Tie as tie
 
-sum-requires : tie.Need-sum-requires
-sum-requires c κs = search needs
-
-sum-fits-requires : tie.Need-sum-fits-requires
-sum-fits-requires c κs = search needs
-
 returns : tie.Need-returns
 unfolding countRules
 returns c = and-fails _ _ (sum-is _ (c .before .before .sum .ensures .0) (c .before .sum-fits .ensures) ∙ not-true _ (c .if1 .taken)) refl
-
-cast-order-fits : tie.Need-cast-order-fits
-cast-order-fits c = search needs
 
 add-order-fits : tie.Need-add-order-fits
 add-order-fits c =
@@ -30,9 +21,6 @@ add-order-fits c =
     let bound = most .ensures .1 in
     let h = leb-true (p .takes + p .returns + p .waits) (most .result) (sym (c .before .before .before .sum-fits .ensures) ∙ not-false _ (c .before .before .if1 .left)) in
     omega arith
-
-order-fits-requires : tie.Need-order-fits-requires
-order-fits-requires c κs = search needs
 
 returns-2 : tie.Need-returns-2
 unfolding countRules
@@ -44,10 +32,10 @@ pub counts-sound-spec : {M : Type 1} → statement M
 counts-sound-spec =
     tie.close
     (tie.spec
-    sum-requires
-    sum-fits-requires
+    (λ c κs. search needs)
+    (λ c κs. search needs)
     returns
-    cast-order-fits
+    (λ c. search needs)
     add-order-fits
-    order-fits-requires
+    (λ c κs. search needs)
     returns-2)

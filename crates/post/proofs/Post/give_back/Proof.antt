@@ -10,12 +10,6 @@ use Rattle.post.proofs.Answering.{not-sent, is-sent}
 use Rattle.post.proofs.Post.give_back.Statement.{statement}
 use Rattle.post.proofs.Post.give_back.Tie as tie
 
-own-number-requires : tie.Need-own-number-requires
-own-number-requires c κs = search needs
-
-refused-requires : tie.Need-refused-requires
-refused-requires c κs = search needs
-
 returns : tie.Need-returns
 unfolding returnRows
 returns c =
@@ -30,9 +24,6 @@ say-requires c κs =
     let s = return-speaks (a .self) (length (now (a .buf))) z in
     (s .sound, s .clock, tt, ltb-false _ 12 (quiet (returnRows (a .self) (length (now (a .buf)))) tt z .1 .0))
 
-same-length : tie.Need-same-length
-same-length c = search needs
-
 returns-2 : tie.Need-returns-2
 unfolding returnRows
 returns-2 c =
@@ -42,4 +33,4 @@ returns-2 c =
 pub give-back-spec : {M : Type 1} → statement M
 give-back-spec =
     tie.close
-    (tie.spec own-number-requires refused-requires returns say-requires same-length returns-2)
+    (tie.spec (λ c κs. search needs) (λ c κs. search needs) returns say-requires (λ c. search needs) returns-2)

@@ -9,9 +9,6 @@ use Rattle.post.proofs.Lacking.{none-missed, some-missed}
 use Rattle.post.proofs.Post.missing.Statement.{statement}
 use Rattle.post.proofs.Post.missing.Tie as tie
 
-sound-requires : tie.Need-sound-requires
-sound-requires c κs = search needs
-
 returns : tie.Need-returns
 unfolding missed
 returns c = off _ _ _ (sym (c .before .sound .ensures) ∙ not-true _ (c .if1 .taken)) refl
@@ -19,17 +16,8 @@ returns c = off _ _ _ (sym (c .before .sound .ensures) ∙ not-true _ (c .if1 .t
 returns-2 : tie.Need-returns-2
 returns-2 c = none-missed _ (sym (c .before .before .before .sound .ensures) ∙ not-false _ (c .before .before .if1 .left)) (c .if2 .taken)
 
-cast-own-stamp : tie.Need-cast-own-stamp
-cast-own-stamp c = search needs
-
 own-stamp-requires : tie.Need-own-stamp-requires
 own-stamp-requires c κs = sound-has _ (passes _ (sym (c .before .before .before .before .before .before .sound .ensures) ∙ not-false _ (c .before .before .before .before .before .if1 .left))) .waits
-
-cast-late : tie.Need-cast-late
-cast-late c = search needs
-
-cast-late-2 : tie.Need-cast-late-2
-cast-late-2 c = search needs
 
 late-requires : tie.Need-late-requires
 late-requires c κs = sound-has _ (passes _ (sym (c .before .before .before .before .before .before .before .before .before .sound .ensures) ∙ not-false _ (c .before .before .before .before .before .before .before .before .if1 .left))) .posts-high
@@ -41,12 +29,12 @@ pub missing-spec : {M : Type 1} → statement M
 missing-spec =
     tie.close
     (tie.spec
-    sound-requires
+    (λ c κs. search needs)
     returns
     returns-2
-    cast-own-stamp
+    (λ c. search needs)
     own-stamp-requires
-    cast-late
-    cast-late-2
+    (λ c. search needs)
+    (λ c. search needs)
     late-requires
     returns-3)

@@ -13,15 +13,6 @@ use Rattle.post.proofs.Post.noted.Tie as tie
 kept : (c : tie.Start) → Kept (c .args .t1)
 kept c = record { sound = c .pre .0; shape = record { last = search needs; slots = search (length-mapped, needs) }; width = search needs }
 
-cast-from : tie.Need-cast-from
-cast-from c = search needs
-
-larger-requires : tie.Need-larger-requires
-larger-requires c κs = search needs
-
-mul-self : tie.Need-mul-self
-mul-self c = search needs
-
 element-write-self : tie.Need-element-write-self
 element-write-self c = let b = sound-has _ (c .before .before .pre .0) .posts-high in let m = c .before .before .pre .1 in search needs
 
@@ -34,4 +25,4 @@ returns c =
     ∙ ap (λ (x : ℕ). remade p x (set (p .last) (m .sender) (m .counter)) (waitingOf p) (p .phase) (p .order)) (c .larger .ensures)
 
 pub noted-spec : {M : Type 1} → statement M
-noted-spec = tie.close (tie.spec cast-from larger-requires mul-self element-write-self returns)
+noted-spec = tie.close (tie.spec (λ c. search needs) (λ c κs. search needs) (λ c. search needs) element-write-self returns)

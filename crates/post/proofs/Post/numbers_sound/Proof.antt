@@ -7,9 +7,6 @@ use Rattle.post.proofs.RowsSound.{lasts-fit}
 use Rattle.post.proofs.Post.numbers_sound.Statement.{statement}
 use Rattle.post.proofs.Post.numbers_sound.Tie as tie
 
-in-range-requires : tie.Need-in-range-requires
-in-range-requires c κs = search needs
-
 returns : tie.Need-returns
 unfolding numberRules
 returns c = and-fails _ _ (sym (c .before .in-range .ensures) ∙ not-true _ (c .if1 .taken)) refl
@@ -24,9 +21,6 @@ returns-3 c =
     and-first _ _ (sym (c .before .before .before .before .before .in-range .ensures) ∙ not-false _ (c .before .before .before .before .if1 .left))
     (and-first _ _ (le-leb _ _ (c .before .before .if2 .left)) (and-fails _ _ (lt-leb _ _ (c .if3 .taken)) refl))
 
-fit-requires : tie.Need-fit-requires
-fit-requires c κs = search needs
-
 returns-4 : tie.Need-returns-4
 unfolding numberRules
 returns-4 c =
@@ -35,4 +29,4 @@ returns-4 c =
 
 pub numbers-sound-spec : {M : Type 1} → statement M
 numbers-sound-spec =
-    tie.close (tie.spec in-range-requires returns returns-2 returns-3 fit-requires returns-4)
+    tie.close (tie.spec (λ c κs. search needs) returns returns-2 returns-3 (λ c κs. search needs) returns-4)

@@ -6,9 +6,6 @@ use Rattle.laws.proofs.Ladders.{on, off, not-on, not-off}
 use Rattle.post.proofs.Post.own_number.Statement.{statement}
 use Rattle.post.proofs.Post.own_number.Tie as tie
 
-sound-requires : tie.Need-sound-requires
-sound-requires c κs = search needs
-
 returns : tie.Need-returns
 returns c = on _ _ _ (ap not (sym (c .before .sound .ensures)) ∙ c .if1 .taken) refl
 
@@ -32,4 +29,4 @@ returns-5 c =
 
 pub own-number-spec : {M : Type 1} → statement M
 own-number-spec =
-    tie.close (tie.spec sound-requires returns returns-2 returns-3 returns-4 returns-5)
+    tie.close (tie.spec (λ c κs. search needs) returns returns-2 returns-3 returns-4 returns-5)

@@ -9,20 +9,8 @@ use Rattle.post.proofs.Post.spoken.Tie as tie
 kept : (c : tie.Start) → Kept (c .args .t1)
 kept c = record { sound = c .pre .0; shape = record { last = search needs; slots = search (length-mapped, needs) }; width = search needs }
 
-add-c : tie.Need-add-c
-add-c c = search needs
-
-cast-insert : tie.Need-cast-insert
-cast-insert c = search needs
-
 insert-requires : tie.Need-insert-requires
 insert-requires c κs = let k = kept (c .before) in (has-room _ k, sound-has _ (k .sound) .rising)
-
-cast-at : tie.Need-cast-at
-cast-at c = search needs
-
-mul-self : tie.Need-mul-self
-mul-self c = search needs
 
 element-write-self : tie.Need-element-write-self
 element-write-self c = let s = sound-has _ (c .before .before .pre .0) in let a = s .own in let b = s .posts-high in search needs
@@ -38,11 +26,11 @@ pub spoken-spec : {M : Type 1} → statement M
 spoken-spec =
     tie.close
     (tie.spec
-    add-c
-    cast-insert
+    (λ c. search needs)
+    (λ c. search needs)
     insert-requires
-    cast-at
-    mul-self
+    (λ c. search needs)
+    (λ c. search needs)
     element-write-self
     add-self
     returns)

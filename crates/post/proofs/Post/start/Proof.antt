@@ -5,19 +5,10 @@ use Rattle.post.specs.Calls.{started}
 use Rattle.post.proofs.Post.start.Statement.{statement}
 use Rattle.post.proofs.Post.start.Tie as tie
 
-in-range-requires : tie.Need-in-range-requires
-in-range-requires c κs = search needs
-
-fresh-requires : tie.Need-fresh-requires
-fresh-requires c κs = search needs
-
 returns : tie.Need-returns
 unfolding started
 returns c =
     on _ _ _ (sym (c .before .before .in-range .ensures) ∙ c .before .if1 .taken) (λ i. record { post = c .fresh .ensures i; number = 0 })
-
-fresh-requires-2 : tie.Need-fresh-requires-2
-fresh-requires-2 c κs = search needs
 
 returns-2 : tie.Need-returns-2
 unfolding started
@@ -26,4 +17,4 @@ returns-2 c =
 
 pub start-spec : {M : Type 1} → statement M
 start-spec =
-    tie.close (tie.spec in-range-requires fresh-requires returns fresh-requires-2 returns-2)
+    tie.close (tie.spec (λ c κs. search needs) (λ c κs. search needs) returns (λ c κs. search needs) returns-2)

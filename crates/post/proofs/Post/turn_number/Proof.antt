@@ -9,21 +9,12 @@ use Rattle.post.proofs.SoundFacts.{sound-has}
 use Rattle.post.proofs.Post.turn_number.Statement.{statement}
 use Rattle.post.proofs.Post.turn_number.Tie as tie
 
-cast-from : tie.Need-cast-from
-cast-from c = search needs
-
-mul-if1 : tie.Need-mul-if1
-mul-if1 c = search needs
-
 array-read-if1 : tie.Need-array-read-if1
 array-read-if1 c = let h = sound-has _ (c .before .before .pre .0) .posts-high in let m = c .before .before .pre .1 in search needs
 
 returns : tie.Need-returns
 unfolding turnRows
 returns c = on _ _ _ (le-leb _ _ (c .if1 .taken)) refl
-
-is-counted-requires : tie.Need-is-counted-requires
-is-counted-requires c κs = search needs
 
 returns-2 : tie.Need-returns-2
 unfolding turnRows
@@ -43,42 +34,34 @@ returns-4 c =
     let yes = sym (c .before .before .before .before .before .is-counted .ensures) ∙ not-false _ (c .before .before .before .before .if2 .left) in
     off _ _ _ (lt-leb _ _ (c .before .before .before .before .before .before .if1 .left)) (on _ _ _ (both-on _ _ yes (two-on (leb lastCounter (c .before .before .before .before .before .before .before .before .before .before .args .self .clock)) _ (le-leb _ _ (c .if4 .taken)))) refl)
 
-cast-count-of : tie.Need-cast-count-of
-cast-count-of c = search needs
-
-count-of-requires : tie.Need-count-of-requires
-count-of-requires c κs = sound-has _ (c .before .before .before .before .before .before .before .before .before .before .before .before .pre .0) .waits
-
 returns-5 : tie.Need-returns-5
 unfolding turnRows
 returns-5 c =
-    let m = c .before .before .before .before .before .before .before .before .before .before .before .before .before .before .args .m in
-    let yes = sym (c .before .before .before .before .before .before .before .before .before .is-counted .ensures) ∙ not-false _ (c .before .before .before .before .before .before .before .before .if2 .left) in
-    off _ _ _ (lt-leb _ _ (c .before .before .before .before .before .before .before .before .before .before .if1 .left))
-    (off _ _ _ (two-off (counted m) _ (both-off _ _ (lt-leb _ _ (c .before .before .before .before .before .before .if3 .left)) (lt-leb _ _ (c .before .before .before .before .if4 .left))))
-    (on _ _ _ (both-on _ _ yes (ap (leb 4) (sym (c .before .count-of .ensures)) ∙ le-leb _ _ (c .if5 .taken))) refl))
+    let a = c .before .before .before .before .before .before .before .before .before .before .before in
+    let yes = sym (c .before .before .before .before .before .before .is-counted .ensures) ∙ not-false _ (c .before .before .before .before .before .if2 .left) in
+    off _ _ _ (lt-leb _ _ (c .before .before .before .before .before .before .before .if1 .left))
+    (off _ _ _ (two-off (counted (a .args .m)) _ (both-off _ _ (lt-leb _ _ (c .before .before .before .if3 .left)) (lt-leb _ _ (c .before .if4 .left))))
+    (on _ _ _ (both-on _ _ yes (ap (leb 4) (sym (a .pre .2)) ∙ le-leb _ _ (c .if5 .taken))) refl))
 
 returns-6 : tie.Need-returns-6
 unfolding turnRows
 returns-6 c =
-    let m = c .before .before .before .before .before .before .before .before .before .before .before .before .before .before .args .m in
-    off _ _ _ (lt-leb _ _ (c .before .before .before .before .before .before .before .before .before .before .if1 .left))
-    (off _ _ _ (two-off (counted m) _ (both-off _ _ (lt-leb _ _ (c .before .before .before .before .before .before .if3 .left)) (lt-leb _ _ (c .before .before .before .before .if4 .left))))
-    (off _ _ _ (two-off (counted m) _ (ap (leb 4) (sym (c .before .count-of .ensures)) ∙ lt-leb _ _ (c .if5 .left))) refl))
+    let a = c .before .before .before .before .before .before .before .before .before .before .before in
+    off _ _ _ (lt-leb _ _ (c .before .before .before .before .before .before .before .if1 .left))
+    (off _ _ _ (two-off (counted (a .args .m)) _ (both-off _ _ (lt-leb _ _ (c .before .before .before .if3 .left)) (lt-leb _ _ (c .before .if4 .left))))
+    (off _ _ _ (two-off (counted (a .args .m)) _ (ap (leb 4) (sym (a .pre .2)) ∙ lt-leb _ _ (c .if5 .left))) refl))
 
 pub turn-number-spec : {M : Type 1} → statement M
 turn-number-spec =
     tie.close
     (tie.spec
-    cast-from
-    mul-if1
+    (λ c. search needs)
+    (λ c. search needs)
     array-read-if1
     returns
-    is-counted-requires
+    (λ c κs. search needs)
     returns-2
     returns-3
     returns-4
-    cast-count-of
-    count-of-requires
     returns-5
     returns-6)

@@ -21,15 +21,9 @@ use Rattle.post.proofs.Post.value.Tie as tie
 fits : (c : tie.Start) → T (sound (c .args .self)) → (c .args .self .places + c .args .self .returns < 2 ^ 63) × (c .args .self .takes < 2 ^ 63)
 fits c t = let s = sound-has (c .args .self) t in let h = counts-small (c .args .self) s (search needs) in let k = s .places-high in (omega arith, omega arith)
 
-sound-requires : tie.Need-sound-requires
-sound-requires c κs = search needs
-
 returns : tie.Need-returns
 unfolding valued
 returns c = off _ _ _ (sym (c .before .sound .ensures) ∙ not-true _ (c .if1 .taken)) refl
-
-cast-t4 : tie.Need-cast-t4
-cast-t4 c = search needs
 
 add-t5 : tie.Need-add-t5
 add-t5 c = let h = fits (c .before .before .before .before) (passes _ (sym (c .before .before .before .sound .ensures) ∙ not-false _ (c .before .before .if1 .left))) .0 in omega arith
@@ -55,4 +49,4 @@ returns-2 c =
 
 pub value-spec : {M : Type 1} → statement M
 value-spec =
-    tie.close (tie.spec sound-requires returns cast-t4 add-t5 cast-t6 cast-t7 sub-t8 returns-2)
+    tie.close (tie.spec (λ c κs. search needs) returns (λ c. search needs) add-t5 cast-t6 cast-t7 sub-t8 returns-2)

@@ -26,23 +26,8 @@ loop-holds : tie.Need-loop-holds Inv-loop μ-loop
 unfolding allTo
 loop-holds c = (omega arith, refl)
 
-cast-n : tie.Need-cast-n Inv-loop μ-loop
-cast-n c = search needs
-
-array-read-n : tie.Need-array-read-n Inv-loop μ-loop
-array-read-n c = search needs
-
-is-few-requires : tie.Need-is-few-requires Inv-loop μ-loop
-is-few-requires c κs = search needs
-
 returns : tie.Need-returns Inv-loop μ-loop
 returns c = sym (allTo-fails _ _ _ (omega arith) (sym (c .before .is-few .ensures) ∙ not-true _ (c .if1 .taken)))
-
-add-q : tie.Need-add-q Inv-loop μ-loop
-add-q c = search needs
-
-loop-less : tie.Need-loop-less Inv-loop μ-loop
-loop-less c = search needs
 
 loop-again : tie.Need-loop-again Inv-loop μ-loop
 loop-again c = (omega arith, allTo-more _ _ (c .before .before .before .loop .inv .1) (sym (c .before .is-few .ensures) ∙ not-false _ (c .if1 .left)))
@@ -57,11 +42,11 @@ few-spec =
     Inv-loop
     μ-loop
     loop-holds
-    cast-n
-    array-read-n
-    is-few-requires
+    (λ c. search needs)
+    (λ c. search needs)
+    (λ c κs. search needs)
     returns
-    add-q
-    loop-less
+    (λ c. search needs)
+    (λ c. search needs)
     loop-again
     returns-2)

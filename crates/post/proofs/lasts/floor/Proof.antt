@@ -25,21 +25,6 @@ loop-holds : tie.Need-loop-holds Inv-loop μ-loop
 unfolding leastTo
 loop-holds c = (omega arith, refl)
 
-mul-lower : tie.Need-mul-lower Inv-loop μ-loop
-mul-lower c = search needs
-
-array-read-lower : tie.Need-array-read-lower Inv-loop μ-loop
-array-read-lower c = search needs
-
-lower-requires : tie.Need-lower-requires Inv-loop μ-loop
-lower-requires c κs = search needs
-
-add-q : tie.Need-add-q Inv-loop μ-loop
-add-q c = search needs
-
-loop-less : tie.Need-loop-less Inv-loop μ-loop
-loop-less c = search needs
-
 loop-again : tie.Need-loop-again Inv-loop μ-loop
 loop-again c = (omega arith, least-more _ _ (λ x. stampOf (getD (c .before .before .before .args .t1) x 0) x) (c .lower .ensures) (c .before .before .loop .inv .1))
 
@@ -53,10 +38,10 @@ floor-spec =
     Inv-loop
     μ-loop
     loop-holds
-    mul-lower
-    array-read-lower
-    lower-requires
-    add-q
-    loop-less
+    (λ c. search needs)
+    (λ c. search needs)
+    (λ c κs. search needs)
+    (λ c. search needs)
+    (λ c. search needs)
     loop-again
     returns)

@@ -9,14 +9,8 @@ use Rattle.post.proofs.lasts.is_late.Tie as tie
 returns : tie.Need-returns
 returns c = search (tests, picks, needs) depth 8
 
-cast-stamp : tie.Need-cast-stamp
-cast-stamp c = search needs
-
-stamp-requires : tie.Need-stamp-requires
-stamp-requires c κs = search needs
-
 returns-2 : tie.Need-returns-2
 returns-2 c = and-first _ _ (ap not (ne-eqb _ _ (c .before .if1 .left))) (rw (c .stamp .ensures))
 
 pub is-late-spec : {M : Type 1} → statement M
-is-late-spec = tie.close (tie.spec returns cast-stamp stamp-requires returns-2)
+is-late-spec = tie.close (tie.spec returns (λ c. search needs) (λ c κs. search needs) returns-2)

@@ -27,21 +27,6 @@ loop-holds : tie.Need-loop-holds Inv-loop μ-loop
 unfolding sumTo
 loop-holds c = (omega arith, refl)
 
-mul-is-late : tie.Need-mul-is-late Inv-loop μ-loop
-mul-is-late c = search needs
-
-array-read-is-late : tie.Need-array-read-is-late Inv-loop μ-loop
-array-read-is-late c = search needs
-
-is-late-requires : tie.Need-is-late-requires Inv-loop μ-loop
-is-late-requires c κs = search needs
-
-cast-set : tie.Need-cast-set Inv-loop μ-loop
-cast-set c = search needs
-
-shl-set : tie.Need-shl-set Inv-loop μ-loop
-shl-set c = search needs
-
 add-set : tie.Need-add-set Inv-loop μ-loop
 add-set c =
     let b = c .before .before .before in
@@ -49,12 +34,6 @@ add-set c =
     let a = b .before .args in
     let l : b .loop .set < 2 ^ q = rw (b .loop .inv .1) (bits-lt (lateAt (a .own) (a .t1) (a .t)) q) in
     rw (bit-is 16 q (omega arith)) (record { fits = bit-room 16 q (b .loop .set) (omega arith) l })
-
-add-q : tie.Need-add-q Inv-loop μ-loop
-add-q c = search needs
-
-loop-less : tie.Need-loop-less Inv-loop μ-loop
-loop-less c = search needs
 
 loop-again : tie.Need-loop-again Inv-loop μ-loop
 loop-again c =
@@ -80,13 +59,13 @@ late-spec =
     Inv-loop
     μ-loop
     loop-holds
-    mul-is-late
-    array-read-is-late
-    is-late-requires
-    cast-set
-    shl-set
+    (λ c. search needs)
+    (λ c. search needs)
+    (λ c κs. search needs)
+    (λ c. search needs)
+    (λ c. search needs)
     add-set
-    add-q
-    loop-less
+    (λ c. search needs)
+    (λ c. search needs)
     loop-again
     returns)

@@ -39,23 +39,8 @@ long c = search needs
 loop-holds : tie.Need-loop-holds Inv-loop μ-loop
 loop-holds c = (omega arith, refl)
 
-mul-is-blank : tie.Need-mul-is-blank Inv-loop μ-loop
-mul-is-blank c = search needs
-
-array-copy-out-is-blank : tie.Need-array-copy-out-is-blank Inv-loop μ-loop
-array-copy-out-is-blank c = search needs
-
-is-blank-requires : tie.Need-is-blank-requires Inv-loop μ-loop
-is-blank-requires c κs = search needs
-
 returns : tie.Need-returns Inv-loop μ-loop
 returns c = let l = long (c .before .before .before .before .before) in sym (no _ (c .before .before .before .before .loop .i) (omega arith) (sym (c .before .is-blank .ensures) ∙ not-true _ (c .if1 .taken))) ∙ c .before .before .before .before .loop .inv .1
-
-add-i : tie.Need-add-i Inv-loop μ-loop
-add-i c = search needs
-
-loop-less : tie.Need-loop-less Inv-loop μ-loop
-loop-less c = search needs
 
 loop-again : tie.Need-loop-again Inv-loop μ-loop
 loop-again c =
@@ -72,11 +57,11 @@ blank-from-spec =
     Inv-loop
     μ-loop
     loop-holds
-    mul-is-blank
-    array-copy-out-is-blank
-    is-blank-requires
+    (λ c. search needs)
+    (λ c. search needs)
+    (λ c κs. search needs)
     returns
-    add-i
-    loop-less
+    (λ c. search needs)
+    (λ c. search needs)
     loop-again
     returns-2)

@@ -22,35 +22,8 @@ abbrev μ-loop : tie.MeasureT-loop
 long : (c : tie.Start Inv-loop μ-loop) → length (c .args .slots) ≡ 62
 long c = search needs
 
-stamp-requires : tie.Need-stamp-requires Inv-loop μ-loop
-stamp-requires c κs = search needs
-
 loop-holds : tie.Need-loop-holds Inv-loop μ-loop
 loop-holds c = let a = c .before .args in (hole _ _, none-above _ (a .slots) (a .n))
-
-sub-old : tie.Need-sub-old Inv-loop μ-loop
-sub-old c = search needs
-
-mul-old : tie.Need-mul-old Inv-loop μ-loop
-mul-old c = search needs
-
-array-copy-out-old : tie.Need-array-copy-out-old Inv-loop μ-loop
-array-copy-out-old c = search needs
-
-stamp-requires-2 : tie.Need-stamp-requires-2 Inv-loop μ-loop
-stamp-requires-2 c κs = search needs
-
-mul-next : tie.Need-mul-next Inv-loop μ-loop
-mul-next c = search needs
-
-array-set-from-next : tie.Need-array-set-from-next Inv-loop μ-loop
-array-set-from-next c = search needs
-
-sub-i : tie.Need-sub-i Inv-loop μ-loop
-sub-i c = search needs
-
-loop-less : tie.Need-loop-less Inv-loop μ-loop
-loop-less c = search needs
 
 loop-again : tie.Need-loop-again Inv-loop μ-loop
 loop-again c =
@@ -62,12 +35,6 @@ loop-again c =
     let same = ap stamp (below v blank (omega arith)) in
     let t2 = c .before .stamp2 .ensures in
     (moved v blank (omega arith) (omega arith), above-more _ (a .slots) (a .n) (k .i) (omega arith) (omega arith) (omega arith) (omega arith) (k .inv .1))
-
-mul-next-2 : tie.Need-mul-next-2 Inv-loop μ-loop
-mul-next-2 c = search needs
-
-array-set-from-next-2 : tie.Need-array-set-from-next-2 Inv-loop μ-loop
-array-set-from-next-2 c = search needs
 
 returns : tie.Need-returns Inv-loop μ-loop
 returns c =
@@ -89,17 +56,17 @@ insert-spec =
     (tie.spec
     Inv-loop
     μ-loop
-    stamp-requires
+    (λ c κs. search needs)
     loop-holds
-    sub-old
-    mul-old
-    array-copy-out-old
-    stamp-requires-2
-    mul-next
-    array-set-from-next
-    sub-i
-    loop-less
+    (λ c. search needs)
+    (λ c. search needs)
+    (λ c. search needs)
+    (λ c κs. search needs)
+    (λ c. search needs)
+    (λ c. search needs)
+    (λ c. search needs)
+    (λ c. search needs)
     loop-again
-    mul-next-2
-    array-set-from-next-2
+    (λ c. search needs)
+    (λ c. search needs)
     returns)

@@ -35,15 +35,6 @@ leaves b =
 loop-holds : tie.Need-loop-holds Inv-loop μ-loop
 loop-holds c = (omega arith, begun _ _ _ _)
 
-mul-m : tie.Need-mul-m Inv-loop μ-loop
-mul-m c = search needs
-
-array-copy-out-m : tie.Need-array-copy-out-m Inv-loop μ-loop
-array-copy-out-m c = search needs
-
-stamp-requires : tie.Need-stamp-requires Inv-loop μ-loop
-stamp-requires c κs = search needs
-
 returns : tie.Need-returns Inv-loop μ-loop
 returns c = stopped _ _ _ _ (leaves (c .before .before .before)) (let e = c .before .stamp .ensures in omega arith)
 
@@ -55,12 +46,6 @@ one-kind-requires c κs = small _ _ _ _ (search needs) (few (c .before .before .
 
 one-kind-requires-2 : tie.Need-one-kind-requires-2 Inv-loop μ-loop
 one-kind-requires-2 c κs = small _ _ _ _ (search needs) (few (c .before .before .before .before .before .before .before)) (leaves (c .before .before .before .before .before)) .1
-
-add-i : tie.Need-add-i Inv-loop μ-loop
-add-i c = search needs
-
-loop-less : tie.Need-loop-less Inv-loop μ-loop
-loop-less c = search needs
 
 loop-again : tie.Need-loop-again Inv-loop μ-loop
 loop-again c = (omega arith, turned _ _ _ _ (leaves (c .before .before .before .before .before .before)) (let e = c .before .before .before .before .stamp .ensures in omega arith) (c .before .one-kind .ensures) (c .one-kind2 .ensures) (c .before .before .number-of .ensures))
@@ -77,14 +62,14 @@ leaving-spec =
     Inv-loop
     μ-loop
     loop-holds
-    mul-m
-    array-copy-out-m
-    stamp-requires
+    (λ c. search needs)
+    (λ c. search needs)
+    (λ c κs. search needs)
     returns
     number-of-requires
     one-kind-requires
     one-kind-requires-2
-    add-i
-    loop-less
+    (λ c. search needs)
+    (λ c. search needs)
     loop-again
     returns-2)

@@ -36,47 +36,14 @@ going b =
 loop-holds : tie.Need-loop-holds Inv-loop μ-loop
 loop-holds c = (omega arith, begun _ _ _ _ _)
 
-mul-m : tie.Need-mul-m Inv-loop μ-loop
-mul-m c = search needs
-
-array-copy-out-m : tie.Need-array-copy-out-m Inv-loop μ-loop
-array-copy-out-m c = search needs
-
-disorderly-requires : tie.Need-disorderly-requires Inv-loop μ-loop
-disorderly-requires c κs = search needs
-
 returns : tie.Need-returns Inv-loop μ-loop
 returns c = unlooked _ _ _ _ _ _ (c .disorderly .ensures) (foreign _ _ _ _ _ (going (c .before .before .before .before)) (c .before .if1 .taken))
-
-cast-q : tie.Need-cast-q Inv-loop μ-loop
-cast-q c = search needs
-
-mul-fits-last : tie.Need-mul-fits-last Inv-loop μ-loop
-mul-fits-last c = search needs
-
-array-read-fits-last : tie.Need-array-read-fits-last Inv-loop μ-loop
-array-read-fits-last c = search needs
-
-fits-last-requires : tie.Need-fits-last-requires Inv-loop μ-loop
-fits-last-requires c κs = search needs
-
-disorderly-requires-2 : tie.Need-disorderly-requires-2 Inv-loop μ-loop
-disorderly-requires-2 c κs = search needs
 
 returns-2 : tie.Need-returns-2 Inv-loop μ-loop
 returns-2 c = unlooked _ _ _ _ _ _ (c .disorderly2 .ensures) (unfit _ _ _ _ _ (going (c .before .before .before .before .before .before .before)) (c .before .before .before .before .if1 .left) (sym (c .before .before .fits-last .ensures) ∙ not-true _ (c .before .if2 .taken)))
 
-stamp-requires : tie.Need-stamp-requires Inv-loop μ-loop
-stamp-requires c κs = search needs
-
-disorderly-requires-3 : tie.Need-disorderly-requires-3 Inv-loop μ-loop
-disorderly-requires-3 c κs = search needs
-
 returns-3 : tie.Need-returns-3 Inv-loop μ-loop
 returns-3 c = unlooked _ _ _ _ _ _ (c .disorderly3 .ensures) (low _ _ _ _ _ (going (c .before .before .before .before .before .before .before .before .before)) (let e = c .before .before .stamp .ensures in omega arith))
-
-array-read-counts : tie.Need-array-read-counts Inv-loop μ-loop
-array-read-counts c = search needs
 
 add-counts : tie.Need-add-counts Inv-loop μ-loop
 add-counts c =
@@ -84,23 +51,11 @@ add-counts c =
     let h = each-small _ _ _ _ _ (going (c .before .before .before .before .before .before .before .before)) (few (c .before .before .before .before .before .before .before .before .before .before)) q (omega arith) in
     record { fits = omega arith }
 
-array-write-counts : tie.Need-array-write-counts Inv-loop μ-loop
-array-write-counts c = search needs
-
 tally-requires : tie.Need-tally-requires Inv-loop μ-loop
 tally-requires c κs = takes-small _ _ _ _ _ (going (c .before .before .before .before .before .before .before .before)) (few (c .before .before .before .before .before .before .before .before .before .before))
 
 tally-requires-2 : tie.Need-tally-requires-2 Inv-loop μ-loop
 tally-requires-2 c κs = returns-small _ _ _ _ _ (going (c .before .before .before .before .before .before .before .before .before)) (few (c .before .before .before .before .before .before .before .before .before .before .before))
-
-end-kind-requires : tie.Need-end-kind-requires Inv-loop μ-loop
-end-kind-requires c κs = search needs
-
-add-i : tie.Need-add-i Inv-loop μ-loop
-add-i c = search needs
-
-loop-less : tie.Need-loop-less Inv-loop μ-loop
-loop-less c = search needs
 
 loop-again : tie.Need-loop-again Inv-loop μ-loop
 loop-again c =
@@ -121,26 +76,26 @@ look-spec =
     Inv-loop
     μ-loop
     loop-holds
-    mul-m
-    array-copy-out-m
-    disorderly-requires
+    (λ c. search needs)
+    (λ c. search needs)
+    (λ c κs. search needs)
     returns
-    cast-q
-    mul-fits-last
-    array-read-fits-last
-    fits-last-requires
-    disorderly-requires-2
+    (λ c. search needs)
+    (λ c. search needs)
+    (λ c. search needs)
+    (λ c κs. search needs)
+    (λ c κs. search needs)
     returns-2
-    stamp-requires
-    disorderly-requires-3
+    (λ c κs. search needs)
+    (λ c κs. search needs)
     returns-3
-    array-read-counts
+    (λ c. search needs)
     add-counts
-    array-write-counts
+    (λ c. search needs)
     tally-requires
     tally-requires-2
-    end-kind-requires
-    add-i
-    loop-less
+    (λ c κs. search needs)
+    (λ c. search needs)
+    (λ c. search needs)
     loop-again
     returns-4)

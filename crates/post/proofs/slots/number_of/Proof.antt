@@ -15,11 +15,8 @@ returns-2 c = on _ _ _ (eq-eqb _ _ (c .before .before .if1 .left)) (off _ _ _ (o
 returns-3 : tie.Need-returns-3
 returns-3 c = on _ _ _ (eq-eqb _ _ (c .before .before .before .before .if1 .left)) (off _ _ _ (two-off (isTake (c .before .before .before .before .before .args .m)) _ (ne-eqb _ _ (c .if3 .taken))) refl)
 
-add-result : tie.Need-add-result
-add-result c = search needs
-
 returns-4 : tie.Need-returns-4
 returns-4 c = on _ _ _ (eq-eqb _ _ (c .before .before .before .before .if1 .left)) (on _ _ _ (both-on _ _ (eq-eqb _ _ (c .before .before .if2 .left)) (eq-eqb _ _ (c .if3 .left))) refl)
 
 pub number-of-spec : {M : Type 1} → statement M
-number-of-spec = tie.close (tie.spec returns returns-2 returns-3 add-result returns-4)
+number-of-spec = tie.close (tie.spec returns returns-2 returns-3 (λ c. search needs) returns-4)

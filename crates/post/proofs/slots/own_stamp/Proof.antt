@@ -34,29 +34,11 @@ long c = search needs
 loop-holds : tie.Need-loop-holds Inv-loop μ-loop
 loop-holds c = (omega arith, refl)
 
-mul-m : tie.Need-mul-m Inv-loop μ-loop
-mul-m c = search needs
-
-array-copy-out-m : tie.Need-array-copy-out-m Inv-loop μ-loop
-array-copy-out-m c = search needs
-
-is-own-take-requires : tie.Need-is-own-take-requires Inv-loop μ-loop
-is-own-take-requires c κs = search needs
-
-stamp-requires : tie.Need-stamp-requires Inv-loop μ-loop
-stamp-requires c κs = search needs
-
 returns : tie.Need-returns Inv-loop μ-loop
 returns c =
     let a = c .before .before .before .before .before .before .args in
     let l = long (c .before .before .before .before .before .before) in
     c .stamp .ensures ∙ sym (here (a .own) (a .t1) (c .before .before .before .before .before .loop .i) (a .n) (omega arith) (omega arith) (sym (c .before .before .is-own-take .ensures) ∙ c .before .if1 .taken)) ∙ c .before .before .before .before .before .loop .inv .1
-
-add-i : tie.Need-add-i Inv-loop μ-loop
-add-i c = search needs
-
-loop-less : tie.Need-loop-less Inv-loop μ-loop
-loop-less c = search needs
 
 loop-again : tie.Need-loop-again Inv-loop μ-loop
 loop-again c =
@@ -77,12 +59,12 @@ own-stamp-spec =
     Inv-loop
     μ-loop
     loop-holds
-    mul-m
-    array-copy-out-m
-    is-own-take-requires
-    stamp-requires
+    (λ c. search needs)
+    (λ c. search needs)
+    (λ c κs. search needs)
+    (λ c κs. search needs)
     returns
-    add-i
-    loop-less
+    (λ c. search needs)
+    (λ c. search needs)
     loop-again
     returns-2)
