@@ -20,8 +20,8 @@ use Rattle.post.specs.declared.Post.{Post}
 use Rattle.post.specs.declared.Answer.{Answer}
 use Rattle.post.specs.Record.{waitingOf, remade}
 use Rattle.post.specs.Settle.{settle}
-use Rattle.post.specs.Calls.{spoken, came, noted, ackClock, done, refused, over, Gives, sent, sentBytes, heardFrom, heardBytes}
-use Rattle.post.specs.Inside.{Countable, answer}
+use Rattle.post.specs.Calls.{spoken, came, noted, ackClock, done, refused, over, Gives, sent, sentBytes, heardFrom, heardBytes, answer}
+use Rattle.post.specs.Inside.{Countable}
 use Rattle.post.proofs.SoundFacts.{sound-has}
 use Rattle.post.proofs.Shape.{Kept, length-waiting}
 use Rattle.post.proofs.Values.{counts-small}

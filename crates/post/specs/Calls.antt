@@ -78,9 +78,12 @@ receiveRows p s n =
 
 -- ---- the calls
 
--- done, with the record p before and p′ after
+-- done, with the phase before and the record after
+abbrev pub answer : ℕ → Post → Bool → Answer
+answer before p wrote = record { post = p; number = 0; wrote = wrote; granted = not (eqb before 3) && eqb (p .phase) 3 }
+
 abbrev pub done : Post → Post → Bool → Answer
-done p p′ wrote = record { post = p′; number = 0; wrote = wrote; granted = not (eqb (p .phase) 3) && eqb (p′ .phase) 3 }
+done p p′ wrote = answer (p .phase) p′ wrote
 
 abbrev pub refused : Post → ℕ → Answer
 refused p n = record { post = p; number = n; wrote = false; granted = false }

@@ -1,15 +1,13 @@
 -- What functions inside the crate promise each other, where a record says it best.
 use mathlib.Core.Path.{_≡_}
-use mathlib.Core.Bool.{Bool, true, not, _&&_}
+use mathlib.Core.Bool.{Bool, true, _&&_}
 use mathlib.Core.List.{List}
 use Prim.Native.Nat.{ℕ, _+_, _-_, _≤_, _<_, _^_}
-use lib.Dec.{eqb}
 use lib.ListN.{length, getD, drop, replicate}
 use Rattle.laws.specs.Lists.{all, many}
 use Rattle.frame.specs.declared.Message.{Message}
 use Rattle.frame.specs.Message.{blank, isTake, isReturn, by}
 use Rattle.post.specs.declared.Post.{Post}
-use Rattle.post.specs.declared.Answer.{Answer}
 use Rattle.post.specs.declared.slots.Seen.{Seen}
 use Rattle.post.specs.declared.slots.Gone.{Gone}
 use Rattle.post.specs.Record.{waitingOf}
@@ -43,7 +41,3 @@ pub record Countable (p : Post) : Type 0 where
   pub blanks : drop (p .waits) (p .slots) ≡ replicate (62 - p .waits) blank
   pub takes : p .takes < 2 ^ 62
   pub returns : p .returns < 2 ^ 62
-
--- what a call that is not refused gives back, from the phase before and the record after
-abbrev pub answer : ℕ → Post → Bool → Answer
-answer before p wrote = record { post = p; number = 0; wrote = wrote; granted = not (eqb before 3) && eqb (p .phase) 3 }

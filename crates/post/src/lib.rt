@@ -18,8 +18,8 @@ ghost use Rattle.laws.specs.Lists.{many};
 ghost use Rattle.post.specs.Record.{waitingOf, fresh};
 ghost use Rattle.post.specs.Sound.{inRange, numberRules, slotRules, countRules, sound};
 ghost use Rattle.post.specs.Settle.{orderAfter, phaseAfter, settle};
-ghost use Rattle.post.specs.Inside.{Countable, Checked, answer};
-ghost use Rattle.post.specs.Calls.{started, spoken, came, noted, ackClock, takeRows, returnRows, senderRows, turnRows, receiveRows, done, refused, over, Gives, took, tookBytes, gaveBack, gaveBackBytes, received, receivedBytes, valued, missed};
+ghost use Rattle.post.specs.Inside.{Countable, Checked};
+ghost use Rattle.post.specs.Calls.{started, spoken, came, noted, ackClock, takeRows, returnRows, senderRows, turnRows, receiveRows, answer, done, refused, over, Gives, took, tookBytes, gaveBack, gaveBackBytes, received, receivedBytes, valued, missed};
 
 // Document 01's record, its fields in 01's order and widths.
 pub struct Post {

@@ -17,8 +17,8 @@ use Rattle.frame.specs.Frame.{fieldsOf, formRows}
 use Rattle.post.specs.declared.Post.{Post}
 use Rattle.post.specs.Sound.{sound}
 use Rattle.post.specs.Settle.{settle}
-use Rattle.post.specs.Calls.{senderRows, turnRows, receiveRows, noted}
-use Rattle.post.specs.Inside.{Countable, answer}
+use Rattle.post.specs.Calls.{senderRows, turnRows, receiveRows, noted, answer}
+use Rattle.post.specs.Inside.{Countable}
 use Rattle.post.proofs.Shape.{Kept}
 use Rattle.post.proofs.Accepted.{accepted}
 use Rattle.post.proofs.Remaking.{length-mapped}

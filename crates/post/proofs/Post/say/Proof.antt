@@ -4,7 +4,8 @@ use mathlib.Core.Bool.{true}
 use native.Mathlib.Omega.{arith}
 use Rattle.post.specs.declared.Post.{Post}
 use Rattle.post.specs.Settle.{settle}
-use Rattle.post.specs.Inside.{Countable, answer}
+use Rattle.post.specs.Inside.{Countable}
+use Rattle.post.specs.Calls.{answer}
 use Rattle.post.proofs.SoundFacts.{sound-has}
 use Rattle.post.proofs.Shape.{Kept}
 use Rattle.post.proofs.Remaking.{length-mapped}
