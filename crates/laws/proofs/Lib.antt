@@ -12,3 +12,4 @@ pub mod IntLaws
 pub mod RefusalLaws
 pub mod BitLaws
 pub mod ShiftLaws
+pub mod StoreLaws

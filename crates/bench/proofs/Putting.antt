@@ -1,0 +1,67 @@
+-- Texts put one after the other into a buffer are one text. How long texts are. Assumes nothing.
+use mathlib.Core.Path.{_≡_, refl, ap, _∙_, sym}
+use mathlib.Core.Bool.{Bool, true, false, cond}
+use mathlib.Core.List.{List, [], _∷_, _++_}
+use Prim.Native.Nat.{ℕ, _+_, _/_, _%_, _≤_, _<_}
+use native.Mathlib.Omega.{arith}
+use lib.Dec.{ltb}
+use borrow.Author.Tests.{lt-ltb, le-ltb}
+use native.Mathlib.Numerals.{add-one}
+use lib.ListN.{length, getD, set, take, length-append}
+use lib.Seq.{sets, length-sets, take-suc, take-all, length-take-le}
+use Rattle.laws.proofs.StoreLaws.{sets-append}
+use Rattle.bench.specs.Text.{decimal, Puts}
+
+pub then : {old mid new s t : List ℕ} {at a b : ℕ} → Puts old mid at s a → Puts mid new a t b → Puts old new at (s ++ t) b
+then {old} {mid} {new} {s} {t} {at} {a} {b} p q =
+    let n = p .next-place in
+    let m = q .next-place in
+    let l = length-append s t in
+    record {
+      next-place = omega arith;
+      bytes = q .bytes ∙ ap (λ (o : List ℕ). sets o a t) (p .bytes) ∙ ap (λ (k : ℕ). sets (sets old at s) k t) n ∙ sets-append old at s t;
+    }
+
+-- the buffer stays as long as it is
+pub same-long : {old new text : List ℕ} {at next : ℕ} → Puts old new at text next → length new ≡ length old
+same-long {old} {new} {text} {at} p = ap length (p .bytes) ∙ length-sets old at text
+
+-- another way to write the text
+pub spelled : {old new s t : List ℕ} {at next : ℕ} → s ≡ t → Puts old new at s next → Puts old new at t next
+spelled e p = rw (sym e) p
+
+-- a decimal number by how many digits it has
+pub one-digit : (n : ℕ) → n < 10 → (48 + n) ∷ [] ≡ decimal n
+unfolding decimal
+one-digit n h = rw (lt-ltb n 10 h)
+
+pub two-digits : (n : ℕ) → 10 ≤ n → n < 100 → (48 + n / 10) ∷ (48 + n % 10) ∷ [] ≡ decimal n
+unfolding decimal
+two-digits n h k = rw (le-ltb n 10 h, lt-ltb n 100 k)
+
+pub three-digits : (n : ℕ) → 10 ≤ n → 100 ≤ n → (48 + n / 100) ∷ (48 + n / 10 % 10) ∷ (48 + n % 10) ∷ [] ≡ decimal n
+unfolding decimal
+three-digits n h k = rw (le-ltb n 10 h, le-ltb n 100 k)
+
+pub decimal-few : (n : ℕ) → length (decimal n) ≤ 3
+unfolding decimal
+decimal-few n = go (ltb n 10) (ltb n 100)
+  where
+    go : (a b : Bool) → length (cond a ((48 + n) ∷ []) (cond b ((48 + n / 10) ∷ (48 + n % 10) ∷ []) ((48 + n / 100) ∷ (48 + n / 10 % 10) ∷ (48 + n % 10) ∷ []))) ≤ 3
+    go true b = omega arith
+    go false true = omega arith
+    go false false = omega arith
+
+-- one byte more of a word
+pub put-more : (old w : List ℕ) (at i : ℕ) → i < length w → set (sets old at (take i w)) (at + i) (getD w i 0) ≡ sets old at (take (i + 1) w)
+put-more old w at i h =
+    let l = length-take-le i w (omega arith) in
+    ap (λ (k : ℕ). set (sets old at (take i w)) k (getD w i 0)) (let e : at + i ≡ at + length (take i w) = omega arith in e)
+    ∙ sets-append old at (take i w) (getD w i 0 ∷ [])
+    ∙ ap (sets old at) (sym (take-suc w i 0 h) ∙ ap (λ (k : ℕ). take k w) (sym (add-one i)))
+
+pub put-all : (old w new : List ℕ) (at i : ℕ) → i ≤ length w → length w ≤ i → new ≡ sets old at (take i w) → Puts old new at w (at + i)
+put-all old w new at i h k e = record { next-place = omega arith; bytes = e ∙ ap (sets old at) (take-all i w k) }
+
+pub put-long : (old w new : List ℕ) (at i : ℕ) → new ≡ sets old at (take i w) → length new ≡ length old
+put-long old w new at i e = ap length e ∙ length-sets old at (take i w)
