@@ -10,7 +10,9 @@ use native.Mathlib.Numerals.{add-one}
 use lib.ListN.{length, getD, set, take, length-append}
 use lib.Seq.{sets, length-sets, take-suc, take-all, length-take-le}
 use Rattle.laws.proofs.StoreLaws.{sets-append}
-use Rattle.bench.specs.Text.{decimal, Puts}
+use Rattle.bench.specs.declared.lines.Command.{Command}
+use Rattle.bench.specs.declared.lines.Command.the-variants.{Take, Return, Deliver, Unknown}
+use Rattle.bench.specs.Text.{decimal, text, Puts}
 
 pub then : {old mid new s t : List ℕ} {at a b : ℕ} → Puts old mid at s a → Puts mid new a t b → Puts old new at (s ++ t) b
 then {old} {mid} {new} {s} {t} {at} {a} {b} p q =
@@ -20,11 +22,8 @@ then {old} {mid} {new} {s} {t} {at} {a} {b} p q =
     record {
       next-place = omega arith;
       bytes = q .bytes ∙ ap (λ (o : List ℕ). sets o a t) (p .bytes) ∙ ap (λ (k : ℕ). sets (sets old at s) k t) n ∙ sets-append old at s t;
+      long = q .long ∙ p .long;
     }
-
--- the buffer stays as long as it is
-pub same-long : {old new text : List ℕ} {at next : ℕ} → Puts old new at text next → length new ≡ length old
-same-long {old} {new} {text} {at} p = ap length (p .bytes) ∙ length-sets old at text
 
 -- another way to write the text
 pub spelled : {old new s t : List ℕ} {at next : ℕ} → s ≡ t → Puts old new at s next → Puts old new at t next
@@ -60,8 +59,15 @@ put-more old w at i h =
     ∙ sets-append old at (take i w) (getD w i 0 ∷ [])
     ∙ ap (sets old at) (sym (take-suc w i 0 h) ∙ ap (λ (k : ℕ). take k w) (sym (add-one i)))
 
-pub put-all : (old w new : List ℕ) (at i : ℕ) → i ≤ length w → length w ≤ i → new ≡ sets old at (take i w) → Puts old new at w (at + i)
-put-all old w new at i h k e = record { next-place = omega arith; bytes = e ∙ ap (sets old at) (take-all i w k) }
-
 pub put-long : (old w new : List ℕ) (at i : ℕ) → new ≡ sets old at (take i w) → length new ≡ length old
 put-long old w new at i e = ap length e ∙ length-sets old at (take i w)
+
+pub put-all : (old w new : List ℕ) (at i : ℕ) → i ≤ length w → length w ≤ i → new ≡ sets old at (take i w) → Puts old new at w (at + i)
+put-all old w new at i h k e = record { next-place = omega arith; bytes = e ∙ ap (sets old at) (take-all i w k); long = put-long old w new at i e }
+
+pub text-few : (c : Command) → length (text c) ≤ 9
+unfolding text
+text-few (Take p) = let h = decimal-few p in omega arith
+text-few (Return p) = let h = decimal-few p in omega arith
+text-few (Deliver p q) = let h = decimal-few p in let k = decimal-few q in let l = length-append (decimal p) (32 ∷ decimal q) in omega arith
+text-few Unknown = omega arith

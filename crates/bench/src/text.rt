@@ -1,11 +1,11 @@
 // Texts, put into a lent buffer from a place on.
 use crate::lines::Command;
 ghost use mathlib.Core.Path.{_≡_};
-ghost use mathlib.Core.Bool.{Bool};
+ghost use mathlib.Core.Bool.{cond};
 ghost use mathlib.Core.List.{[], _∷_, _++_};
 ghost use Prim.Native.Nat.{_≤_, _<_, _+_};
 ghost use lib.ListN.{length};
-ghost use Rattle.bench.specs.Text.{decimal, text, Puts};
+ghost use Rattle.bench.specs.Text.{decimal, text, answerLine, badHeader, lastLine, Puts};
 
 pub(crate) fn byte(out: &mut [u8], at: usize, b: u8) -> usize
     requires { ⌜ at < length (now out) ⌝ }
@@ -78,4 +78,63 @@ pub(crate) fn command(out: &mut [u8], at: usize, c: Command) -> usize
         }
         Command::Unknown => byte(out, at, b'?'),
     }
+}
+
+fn mark(granted: bool) -> u8
+    ensures { λ r. ⌜ r ≡ cond granted 71 45 ⌝ }
+{
+    if granted {
+        return b'G';
+    }
+    b'-'
+}
+
+// The rest of an answer line after the command.
+fn ending(out: &mut [u8], at: usize, refusal: u8, granted: bool) -> usize
+    requires { ⌜ at + 7 ≤ length (now out) ⌝ }
+    ensures { λ r. ⌜ Puts (now (out .entry)) (now (out .exit)) at (32 ∷ decimal refusal ++ (32 ∷ cond granted 71 45 ∷ 10 ∷ [])) r ⌝ }
+{
+    let m = mark(granted);
+    let a = byte(out, at, b' ');
+    let b = number(out, a, refusal as u16);
+    let d = byte(out, b, b' ');
+    let e = byte(out, d, m);
+    byte(out, e, b'\n')
+}
+
+pub(crate) fn answer(
+    out: &mut [u8],
+    at: usize,
+    n: u16,
+    c: Command,
+    refusal: u8,
+    granted: bool,
+) -> usize
+    requires { ⌜ (at + 20 ≤ length (now out)) × (n < 1000) ⌝ }
+    ensures { λ r. ⌜ Puts (now (out .entry)) (now (out .exit)) at (answerLine n c refusal granted) r ⌝ }
+{
+    let a = number(out, at, n);
+    let b = byte(out, a, b' ');
+    let d = command(out, b, c);
+    ending(out, d, refusal, granted)
+}
+
+pub(crate) fn bad_header(out: &mut [u8], at: usize) -> usize
+    requires { ⌜ at + 11 ≤ length (now out) ⌝ }
+    ensures { λ r. ⌜ Puts (now (out .entry)) (now (out .exit)) at badHeader r ⌝ }
+{
+    word(out, at, b"bad header\n")
+}
+
+pub(crate) fn last(out: &mut [u8], at: usize, places: u8, held: u8, waiting: u8) -> usize
+    requires { ⌜ at + 32 ≤ length (now out) ⌝ }
+    ensures { λ r. ⌜ Puts (now (out .entry)) (now (out .exit)) at (lastLine places held waiting) r ⌝ }
+{
+    let a = word(out, at, b"places ");
+    let b = number(out, a, places as u16);
+    let d = word(out, b, b" held ");
+    let e = number(out, d, held as u16);
+    let f = word(out, e, b" waiting ");
+    let g = number(out, f, waiting as u16);
+    byte(out, g, b'\n')
 }

@@ -1,7 +1,7 @@
 -- `bench::text::pair` meets its contract: a number takes at most 3 bytes. Assumes nothing.
 use borrow.Author.Needs.{needs}
 use native.Mathlib.Omega.{arith}
-use Rattle.bench.proofs.Putting.{then, same-long, decimal-few}
+use Rattle.bench.proofs.Putting.{then, decimal-few}
 use Rattle.bench.proofs.text.pair.Statement.{statement}
 use Rattle.bench.proofs.text.pair.Tie as tie
 
@@ -9,21 +9,10 @@ number-requires : tie.Need-number-requires
 number-requires c κs = search needs
 
 byte-requires : tie.Need-byte-requires
-byte-requires c κs =
-    let p = c .before .before .before .number .ensures in
-    let n = p .next-place in
-    let l = same-long p in
-    omega (arith, decimal-few (c .before .before .before .before .before .before .args .p))
+byte-requires c κs = omega (arith, decimal-few (c .before .before .before .before .before .before .args .p))
 
 number-requires-2 : tie.Need-number-requires-2
-number-requires-2 c κs =
-    let p = c .before .before .before .before .before .before .before .number .ensures in
-    let q = c .before .before .before .byte .ensures in
-    let n = p .next-place in
-    let m = q .next-place in
-    let l = same-long p in
-    let k = same-long q in
-    (omega (arith, decimal-few (c .before .before .before .before .before .before .before .before .before .before .args .p)), search needs)
+number-requires-2 c κs = (omega (arith, decimal-few (c .before .before .before .before .before .before .before .before .before .before .args .p)), search needs)
 
 same-length : tie.Need-same-length
 same-length c = search needs
