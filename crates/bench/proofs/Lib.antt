@@ -1,1 +1,4 @@
 pub mod Putting
+pub mod Digits
+pub mod SearchLaws
+pub mod Guessing

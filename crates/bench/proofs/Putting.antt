@@ -9,7 +9,7 @@ use borrow.Author.Tests.{lt-ltb, le-ltb}
 use native.Mathlib.Numerals.{add-one}
 use lib.ListN.{length, getD, set, take, length-append}
 use lib.Seq.{sets, length-sets, take-suc, take-all, length-take-le}
-use Rattle.laws.proofs.StoreLaws.{sets-append}
+use Rattle.laws.proofs.StoreLaws.{sets-append, take-sets}
 use Rattle.bench.specs.declared.lines.Command.{Command}
 use Rattle.bench.specs.declared.lines.Command.the-variants.{Take, Return, Deliver, Unknown}
 use Rattle.bench.specs.Text.{decimal, text, Puts}
@@ -71,3 +71,12 @@ text-few (Take p) = let h = decimal-few p in omega arith
 text-few (Return p) = let h = decimal-few p in omega arith
 text-few (Deliver p q) = let h = decimal-few p in let k = decimal-few q in let l = length-append (decimal p) (32 ∷ decimal q) in omega arith
 text-few Unknown = omega arith
+
+-- a text put at the start stands there
+pub put-first : {old new text : List ℕ} {n : ℕ} → Puts old new 0 text n → length text ≤ length old → take n new ≡ text
+put-first {old} {new} {text} {n} p h =
+    let k = p .next-place in
+    ap (λ (i : ℕ). take i new) k ∙ ap (take (0 + length text)) (p .bytes) ∙ take-sets old 0 text (omega arith)
+
+pub pair-few : (p q : ℕ) → length (decimal p ++ (32 ∷ decimal q)) ≤ 7
+pair-few p q = let h = decimal-few p in let k = decimal-few q in let l = length-append (decimal p) (32 ∷ decimal q) in omega arith
