@@ -2,3 +2,4 @@ pub mod Putting
 pub mod Digits
 pub mod SearchLaws
 pub mod Guessing
+pub mod Nights

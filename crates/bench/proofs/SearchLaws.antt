@@ -2,12 +2,15 @@
 use mathlib.Core.Path.{_≡_, refl, ap, ap₂, _∙_, sym, subst}
 use mathlib.Core.Logic.{_⊎_, inl, inr, ⊎-elim}
 use mathlib.Core.Bool.{Bool, true, false, not, cond, _&&_}
-use mathlib.Core.List.{List, [], _∷_, _++_, map}
+use mathlib.Core.List.{List, [], _∷_, _++_, map, map-append}
 use Prim.Native.Nat.{ℕ, zero, suc, _+_, _≤_, _<_}
 use native.Mathlib.Omega.{arith}
 use native.Mathlib.Nat.{eq-or-lt-of-le}
+use native.Mathlib.Numerals.{add-one}
 use denote.Floats.{passes}
 use lib.Dec.{T, T-not, eqb, eqb→eq, eqb-refl}
+use lib.ListN.{length, take, set}
+use lib.Seq.{take-suc-set, take-all}
 use lib.Ieee.Bits.{is-true, is-false}
 use Rattle.laws.specs.Lists.{In}
 use Rattle.laws.proofs.Tests.{test, and-l, and-r}
@@ -93,3 +96,19 @@ pub in-from : (k n i : ℕ) → k ≤ i → i < k + n → In i (from k n)
 unfolding from
 in-from k zero i h l = absurd (omega arith)
 in-from k (suc n) i h l = ⊎-elim (λ e. inl (sym e)) (λ m. inr (in-from (suc k) n i m (omega arith))) (eq-or-lt-of-le h)
+
+from-more : (k n : ℕ) → from k (suc n) ≡ from k n ++ ((k + n) ∷ [])
+unfolding from
+from-more k zero = ap (λ (x : ℕ). x ∷ []) (let e : k ≡ k + 0 = omega arith in e)
+from-more k (suc n) = ap (_∷_ k) (from-more (suc k) n ∙ ap (λ (x : ℕ). from (suc k) n ++ (x ∷ [])) (let e : suc k + n ≡ k + suc n = omega arith in e))
+
+-- one more of a list that is filled with f of each place
+pub fill-one : {A : Type 0} (f : ℕ → A) (l : List A) (p : ℕ) (x : A) → p < length l → take p l ≡ map f (from 0 p) → x ≡ f p → take (p + 1) (set l p x) ≡ map f (from 0 (p + 1))
+fill-one {A} f l p x h e d =
+    ap (λ (k : ℕ). take k (set l p x)) (add-one p) ∙ take-suc-set l p x h ∙ ap₂ (λ (s : List A) (y : A). s ++ (y ∷ [])) e d
+    ∙ sym (map-append f (from 0 p) (p ∷ []))
+    ∙ ap (map f) (ap (λ (y : ℕ). from 0 p ++ (y ∷ [])) (let z : p ≡ 0 + p = omega arith in z) ∙ sym (from-more 0 p) ∙ ap (from 0) (sym (add-one p)))
+
+pub fill-all : {A : Type 0} (f : ℕ → A) (l : List A) (n p : ℕ) → length l ≡ n → n ≤ p → p ≤ n → take p l ≡ map f (from 0 p) → l ≡ map f (from 0 n)
+fill-all f l n p h k m e =
+    sym (take-all p l (omega arith)) ∙ e ∙ ap (λ (i : ℕ). map f (from 0 i)) (let z : p ≡ n = omega arith in z)

@@ -1,4 +1,5 @@
 pub mod Text
 pub mod Search
 pub mod Lines
+pub mod Night
 pub mod Inside
