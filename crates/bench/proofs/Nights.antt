@@ -2,20 +2,23 @@
 use mathlib.Core.Path.{_≡_, refl, ap, _∙_, sym}
 use mathlib.Core.Bool.{Bool, true, false, not, cond, _&&_}
 use mathlib.Core.List.{List, [], _∷_}
-use Prim.Native.Nat.{ℕ, _+_, _*_, _≤_, _<_}
+use Prim.Native.Nat.{ℕ, zero, suc, _+_, _*_, _≤_, _<_}
 use native.Mathlib.Omega.{arith}
 use native.Mathlib.Nat.{min-le-left}
-use borrow.Author.Tests.{eq-eqb, ne-eqb, not-true, not-false, lt-ltb, le-ltb}
-use lib.Dec.{ltb, eqb}
+use borrow.Author.Tests.{eq-eqb, ne-eqb, not-true, not-false, lt-ltb, le-ltb, le-leb, lt-leb}
+use lib.Dec.{leb, ltb, eqb}
 use lib.ListN.{length, getD, set, take, drop, length-take, drop-of-length-le}
 use lib.Seq.{slice, take-all}
-use Rattle.laws.proofs.Ladders.{one-off, two-off, both-on}
+use Rattle.laws.proofs.Ladders.{on, off, one-off, two-off, both-on}
 use Rattle.laws.proofs.ScanLaws.{next}
 use Rattle.frame.specs.declared.Message.{Message}
 use Rattle.frame.specs.Message.{blank, by}
+use Rattle.post.specs.declared.Post.{Post}
 use Rattle.bench.specs.declared.Night.{Night}
 use Rattle.bench.specs.declared.calls.Called.{Called}
-use Rattle.bench.specs.Night.{after, seek}
+use Rattle.bench.specs.declared.calls.Ran.{Ran}
+use Rattle.bench.specs.declared.lines.Command.the-variants.{Deliver}
+use Rattle.bench.specs.Night.{receives, opened, postOf, after, seek, nextOf, passed, refused, answered, offered, ran}
 
 module _ (s : Night) (p : ℕ) (c : Called) where
   abbrev quiet : Night
@@ -52,3 +55,33 @@ module _ (p : ℕ) (l : List Message) (i n : ℕ) where
 -- only 256 places can be filled
 pub all-filled : (l : List Message) (n : ℕ) → length l ≡ 256 → 256 ≤ n → take 256 l ≡ take n l
 all-filled l n e h = take-all 256 l (omega arith) ∙ sym (take-all n l (omega arith))
+
+-- a place within a list has what it has, whatever stands for what is not there
+pub within : {A : Type 0} (l : List A) (i : ℕ) (d e : A) → i < length l → getD l i d ≡ getD l i e
+within [] i d e h = absurd (omega arith)
+within (x ∷ xs) zero d e h = refl
+within (x ∷ xs) (suc i) d e h = within xs i d e (omega arith)
+
+module _ (s : Night) (p q i : ℕ) (c : Called) (d : Post) (h : q < length (s .posts)) (e : c ≡ receives (getD (s .posts) q d) (getD (s .sent) i blank)) (n : Night) where
+  received : c ≡ receives (postOf s q) (getD (s .sent) i blank)
+  received = e ∙ ap (λ (x : Post). receives x (getD (s .sent) i blank)) (within (s .posts) q d (opened 0 0 0) h)
+
+  abbrev offers : Called → Ran
+  offers c = answered (cond (eqb (c .answer .number) 0) (passed (after s q c) p q i) (after s q c)) c
+
+  pub accepted : c .answer .number ≡ 0 → n ≡ passed (after s q c) p q i → answered n c ≡ offered s p q i
+  unfolding offered
+  accepted z f = (λ j. answered (on (eqb (c .answer .number) 0) _ (after s q c) (eq-eqb (c .answer .number) 0 z) f j) c) ∙ ap offers received
+
+  pub stays-next : (c .answer .number ≡ 0 → ⊥) → n ≡ after s q c → answered n c ≡ offered s p q i
+  unfolding offered
+  stays-next z f = (λ j. answered (off (eqb (c .answer .number) 0) (passed (after s q c) p q i) _ (ne-eqb (c .answer .number) 0 z) f j) c) ∙ ap offers received
+
+module _ (s : Night) (p q i : ℕ) (e : i ≡ nextOf s p q) {r : Ran} where
+  pub none-next : 256 ≤ i → r ≡ refused s 15 → r ≡ ran s (Deliver p q)
+  unfolding ran
+  none-next h d = on (leb 256 (nextOf s p q)) _ _ (ap (leb 256) (sym e) ∙ le-leb 256 i h) d
+
+  pub one-next : i < 256 → r ≡ offered s p q i → r ≡ ran s (Deliver p q)
+  unfolding ran
+  one-next h d = off (leb 256 (nextOf s p q)) _ _ (ap (leb 256) (sym e) ∙ lt-leb 256 i h) (d ∙ ap (offered s p q) e)

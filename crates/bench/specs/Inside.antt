@@ -1,7 +1,7 @@
 -- What functions inside the crate promise each other: the one header or command that a line can be, by its digits.
 use mathlib.Core.Bool.{Bool, cond, _&&_}
 use mathlib.Core.List.{List}
-use Prim.Native.Nat.{ℕ, _+_, _*_, _-_}
+use Prim.Native.Nat.{ℕ, _+_, _*_, _-_, _<_}
 use lib.Dec.{leb, ltb, eqb}
 use lib.ListN.{getD}
 use Rattle.bench.specs.declared.lines.Header.{Header}
@@ -33,3 +33,10 @@ guessCommand line =
 -- from 1 to 16
 unfoldable pub headerFits : Header → Bool
 headerFits h = leb 1 (h .posts) && (leb (h .posts) 16 && (leb 1 (h .places) && leb (h .places) 16))
+
+-- its posts are below 16
+abbrev pub Safe : Command → Type 0
+Safe (Take p) = p < 16
+Safe (Return p) = p < 16
+Safe (Deliver p q) = (p < 16) × (q < 16)
+Safe Unknown = Unit

@@ -1,12 +1,14 @@
 // What commands do to the records and the messages sent.
 use crate::Night;
+use crate::lines::Command;
 use frame::Message;
 use post::Answer;
 use post::Post;
 ghost use mathlib.Core.Path.{_≡_};
 ghost use Prim.Native.Nat.{_≤_, _<_, _+_, _*_};
 ghost use lib.ListN.{take, drop};
-ghost use Rattle.bench.specs.Night.{takes, givesBack, receives, opened, begun, after, seek, nextOf, passed, offered, ran};
+ghost use Rattle.bench.specs.Night.{takes, givesBack, receives, opened, begun, after, seek, nextOf, passed, refused, answered, offered, ran};
+ghost use Rattle.bench.specs.Inside.{Safe};
 
 const BLANK: Message = Message {
     kind: 0,
@@ -135,5 +137,87 @@ impl Night {
         self.sent[at] = m;
         self.count = self.count + 1;
         self
+    }
+
+    // Post q has accepted the message of p at place i.
+    fn pass(mut self, p: u8, q: u8, i: usize) -> Self
+        requires { ⌜ (p < 16) × (q < 16) × (i < 256) ⌝ }
+        ensures { λ r. ⌜ r ≡ passed self p q i ⌝ }
+    {
+        let at = 16 * p as usize + q as usize;
+        self.read[at] = (i + 1) as u16;
+        self
+    }
+
+    fn offer(self, p: u8, q: u8, i: usize) -> Ran
+        requires { ⌜ (p < 16) × (q < 16) × (i < 256) ⌝ }
+        ensures { λ r. ⌜ r ≡ offered self p q i ⌝ }
+    {
+        let at = q as usize;
+        let post = self.posts[at];
+        let m = self.sent[i];
+        let called = receive(post, m);
+        let a = called.answer;
+        let next = self.after(at, called);
+        if a.number == 0 {
+            return Ran {
+                night: next.pass(p, q, i),
+                number: a.number,
+                granted: a.granted,
+            };
+        }
+        Ran {
+            night: next,
+            number: a.number,
+            granted: a.granted,
+        }
+    }
+
+    fn refused(self, number: u8) -> Ran
+        ensures { λ r. ⌜ r ≡ refused self number ⌝ }
+    {
+        Ran {
+            night: self,
+            number,
+            granted: false,
+        }
+    }
+
+    fn answered(self, p: usize, called: Called) -> Ran
+        requires { ⌜ p < 16 ⌝ }
+        ensures { λ r. ⌜ r ≡ answered (after self p called) called ⌝ }
+    {
+        let a = called.answer;
+        Ran {
+            night: self.after(p, called),
+            number: a.number,
+            granted: a.granted,
+        }
+    }
+
+    pub(crate) fn run(self, c: Command) -> Ran
+        requires { ⌜ Safe c ⌝ }
+        ensures { λ r. ⌜ r ≡ ran self c ⌝ }
+    {
+        match c {
+            Command::Take(p) => {
+                let at = p as usize;
+                let post = self.posts[at];
+                self.answered(at, take(post))
+            }
+            Command::Return(p) => {
+                let at = p as usize;
+                let post = self.posts[at];
+                self.answered(at, give_back(post))
+            }
+            Command::Deliver(p, q) => {
+                let i = self.next(p, q);
+                if 256 <= i {
+                    return self.refused(15);
+                }
+                self.offer(p, q, i)
+            }
+            Command::Unknown => self.refused(16),
+        }
     }
 }
