@@ -15,8 +15,8 @@ use Rattle.bench.specs.declared.lines.Command.the-variants.{Take, Return
 use Rattle.bench.specs.Search.{same, from, pairs}
 use Rattle.bench.specs.Text.{decimal, text}
 use Rattle.bench.specs.Lines.{inside, inRange, everyCommand, commandOf, heading, headerText, headerOf}
-use Rattle.bench.specs.Inside.{digit, numberAt, afterAt, guessCommand, guessHeader, headerFits}
-use Rattle.bench.proofs.SearchLaws.{in-map, in-pairs, in-from, fixed, is-guess, no-fit, no-text}
+use Rattle.bench.specs.Inside.{digit, numberAt, afterAt, guessCommand, guessHeader, headerFits, Safe}
+use Rattle.bench.proofs.SearchLaws.{in-map, in-pairs, in-from, fixed, first-has, is-guess, no-fit, no-text}
 
 -- ---- commands
 
@@ -42,27 +42,43 @@ every-found : map (λ c. guessCommand (text c)) everyCommand ≡ everyCommand
 unfolding everyCommand from pairs guessCommand numberAt afterAt digit text decimal
 every-found = refl
 
+there : (n : ℕ) (c : Command) → T (inRange n c) → In c (keep (inRange n) everyCommand)
+there n c t = in-keep (inRange n) c everyCommand (every-in n c t) t
+
+only : (n : ℕ) (c : Command) → In c (keep (inRange n) everyCommand) → T (inRange n c)
+only n c i = keep-in (inRange n) c everyCommand i .1
+
+found : (n : ℕ) (c : Command) → In c (keep (inRange n) everyCommand) → guessCommand (text c) ≡ c
+found n c i = fixed (λ c. guessCommand (text c)) everyCommand every-found c (keep-in (inRange n) c everyCommand i .0)
+
 module _ (n : ℕ) (line : List ℕ) (g : Command) (e : g ≡ guessCommand line) where
-  there : (c : Command) → T (inRange n c) → In c (keep (inRange n) everyCommand)
-  there c t = in-keep (inRange n) c everyCommand (every-in n c t) t
-
-  only : (c : Command) → In c (keep (inRange n) everyCommand) → T (inRange n c)
-  only c i = keep-in (inRange n) c everyCommand i .1
-
-  found : (c : Command) → In c (keep (inRange n) everyCommand) → guessCommand (text c) ≡ c
-  found c i = fixed (λ c. guessCommand (text c)) everyCommand every-found c (keep-in (inRange n) c everyCommand i .0)
-
   pub is-command : inRange n g ≡ true → same (text g) line ≡ true → commandOf n line ≡ g
   unfolding commandOf
-  is-command = is-guess text guessCommand (keep (inRange n) everyCommand) (inRange n) there only found Unknown line g e
+  is-command = is-guess text guessCommand (keep (inRange n) everyCommand) (inRange n) (there n) (only n) (found n) Unknown line g e
 
   pub out-of-range : inRange n g ≡ false → commandOf n line ≡ Unknown
   unfolding commandOf
-  out-of-range = no-fit text guessCommand (keep (inRange n) everyCommand) (inRange n) there only found Unknown line g e
+  out-of-range = no-fit text guessCommand (keep (inRange n) everyCommand) (inRange n) (there n) (only n) (found n) Unknown line g e
 
   pub not-command : same (text g) line ≡ false → commandOf n line ≡ Unknown
   unfolding commandOf
-  not-command = no-text text guessCommand (keep (inRange n) everyCommand) (inRange n) there only found Unknown line g e
+  not-command = no-text text guessCommand (keep (inRange n) everyCommand) (inRange n) (there n) (only n) (found n) Unknown line g e
+
+-- a command that a line is has posts below 16
+range-safe : (n : ℕ) (c : Command) → T (inRange n c) → Safe c
+unfolding inRange inside
+range-safe n (Take p) t = ltb→lt p 16 (and-r (ltb p n) (ltb p 16) t)
+range-safe n (Return p) t = ltb→lt p 16 (and-r (ltb p n) (ltb p 16) t)
+range-safe n (Deliver p q) t =
+    let u = and-r (ltb p n && ltb p 16) (ltb q n && ltb q 16 && not (eqb p q)) t in (
+      ltb→lt p 16 (and-r (ltb p n) (ltb p 16) (and-l (ltb p n && ltb p 16) (ltb q n && ltb q 16 && not (eqb p q)) t)),
+      ltb→lt q 16 (and-r (ltb q n) (ltb q 16) (and-l (ltb q n && ltb q 16) (not (eqb p q)) u)),
+    )
+range-safe n Unknown t = absurd t
+
+pub command-safe : (n : ℕ) (line : List ℕ) → Safe (commandOf n line)
+unfolding commandOf
+command-safe n line = first-has Safe (λ c. same (text c) line) Unknown (keep (inRange n) everyCommand) tt (λ c i. range-safe n c (only n c i))
 
 -- ---- headers
 

@@ -3,3 +3,5 @@ pub mod Digits
 pub mod SearchLaws
 pub mod Guessing
 pub mod Nights
+pub mod Turning
+pub mod Feeding

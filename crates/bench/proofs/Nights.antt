@@ -56,6 +56,23 @@ module _ (p : ℕ) (l : List Message) (i n : ℕ) where
 pub all-filled : (l : List Message) (n : ℕ) → length l ≡ 256 → 256 ≤ n → take 256 l ≡ take n l
 all-filled l n e h = take-all 256 l (omega arith) ∙ sym (take-all n l (omega arith))
 
+-- what the code reads where there is no record
+abbrev pub absent : Post
+absent = record {
+  posts = 0;
+  own = 0;
+  feeder = 0;
+  places = 0;
+  clock = 0;
+  last = [];
+  waits = 0;
+  slots = [];
+  takes = 0;
+  returns = 0;
+  phase = 0;
+  order = 0;
+}
+
 -- a place within a list has what it has, whatever stands for what is not there
 pub within : {A : Type 0} (l : List A) (i : ℕ) (d e : A) → i < length l → getD l i d ≡ getD l i e
 within [] i d e h = absurd (omega arith)

@@ -12,7 +12,7 @@ use lib.Seq.{sets, length-sets, take-suc, take-all, length-take-le}
 use Rattle.laws.proofs.StoreLaws.{sets-append, take-sets}
 use Rattle.bench.specs.declared.lines.Command.{Command}
 use Rattle.bench.specs.declared.lines.Command.the-variants.{Take, Return, Deliver, Unknown}
-use Rattle.bench.specs.Text.{decimal, text, Puts}
+use Rattle.bench.specs.Text.{decimal, text, answerLine, lastLine, Puts}
 
 pub then : {old mid new s t : List ℕ} {at a b : ℕ} → Puts old mid at s a → Puts mid new a t b → Puts old new at (s ++ t) b
 then {old} {mid} {new} {s} {t} {at} {a} {b} p q =
@@ -80,3 +80,29 @@ put-first {old} {new} {text} {n} p h =
 
 pub pair-few : (p q : ℕ) → length (decimal p ++ (32 ∷ decimal q)) ≤ 7
 pair-few p q = let h = decimal-few p in let k = decimal-few q in let l = length-append (decimal p) (32 ∷ decimal q) in omega arith
+
+pub answer-few : (n : ℕ) (c : Command) (number : ℕ) (granted : Bool) → length (answerLine n c number granted) ≤ 20
+unfolding answerLine
+answer-few n c number granted =
+    let end : List ℕ = 32 ∷ cond granted 71 45 ∷ 10 ∷ [] in
+    let rest : List ℕ = 32 ∷ decimal number ++ end in
+    let h = decimal-few n in
+    let k = text-few c in
+    let m = decimal-few number in
+    let l = length-append (decimal n) (32 ∷ text c ++ rest) in
+    let i = length-append (text c) rest in
+    let j = length-append (decimal number) end in
+    omega arith
+
+pub last-few : (places held waiting : ℕ) → length (lastLine places held waiting) ≤ 32
+unfolding lastLine
+last-few places held waiting =
+    let third : List ℕ = 32 ∷ 119 ∷ 97 ∷ 105 ∷ 116 ∷ 105 ∷ 110 ∷ 103 ∷ 32 ∷ decimal waiting ++ (10 ∷ []) in
+    let second : List ℕ = 32 ∷ 104 ∷ 101 ∷ 108 ∷ 100 ∷ 32 ∷ decimal held ++ third in
+    let h = decimal-few places in
+    let k = decimal-few held in
+    let m = decimal-few waiting in
+    let l = length-append (decimal places) second in
+    let i = length-append (decimal held) third in
+    let j = length-append (decimal waiting) (10 ∷ []) in
+    omega arith

@@ -13,7 +13,7 @@ use lib.ListN.{length, take, set}
 use lib.Seq.{take-suc-set, take-all}
 use lib.Ieee.Bits.{is-true, is-false}
 use Rattle.laws.specs.Lists.{In}
-use Rattle.laws.proofs.Tests.{test, and-l, and-r}
+use Rattle.laws.proofs.Tests.{test, cond-both, and-l, and-r}
 use Rattle.laws.proofs.ListLaws.{in-left, in-right}
 use Rattle.bench.specs.Search.{first, same, from, pairs}
 
@@ -46,6 +46,12 @@ module _ {A : Type 0} where
   unfolding first
   first-none f d [] h = refl
   first-none f d (x ∷ xs) h = test (f x) (λ y. absurd (h x (inl refl) y)) (λ n. rw (is-false (f x) n) (first-none f d xs (λ a k. h a (inr k))))
+
+  -- what holds of each that passes, and where none does, holds of the first
+  pub first-has : (P : A → Type 0) (f : A → Bool) (d : A) (l : List A) → P d → ((a : A) → In a l → P a) → P (first f d l)
+  unfolding first
+  first-has P f d [] z h = z
+  first-has P f d (x ∷ xs) z h = cond-both P (f x) x (first f d xs) (λ y. h x (inl refl)) (λ n. first-has P f d xs z (λ a i. h a (inr i)))
 
   -- a function that gives each of a list back
   pub fixed : (f : A → A) (l : List A) → map f l ≡ l → (a : A) → In a l → f a ≡ a

@@ -2,4 +2,5 @@ pub mod Text
 pub mod Search
 pub mod Lines
 pub mod Night
+pub mod Bench
 pub mod Inside
