@@ -5,3 +5,5 @@ pub mod Guessing
 pub mod Nights
 pub mod Turning
 pub mod Feeding
+pub mod Unique
+pub mod Kept

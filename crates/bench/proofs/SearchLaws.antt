@@ -53,6 +53,11 @@ module _ {A : Type 0} where
   first-has P f d [] z h = z
   first-has P f d (x ∷ xs) z h = cond-both P (f x) x (first f d xs) (λ y. h x (inl refl)) (λ n. first-has P f d xs z (λ a i. h a (inr i)))
 
+  pub first-cong : (f g : A → Bool) (d : A) (l : List A) → ((a : A) → In a l → f a ≡ g a) → first f d l ≡ first g d l
+  unfolding first
+  first-cong f g d [] h = refl
+  first-cong f g d (x ∷ xs) h = rw (h x (inl refl), first-cong f g d xs (λ a i. h a (inr i)))
+
   -- a function that gives each of a list back
   pub fixed : (f : A → A) (l : List A) → map f l ≡ l → (a : A) → In a l → f a ≡ a
   fixed f [] e a i = absurd i

@@ -3,4 +3,5 @@ pub mod Search
 pub mod Lines
 pub mod Night
 pub mod Bench
+pub mod Output
 pub mod Inside
