@@ -14,3 +14,4 @@ pub mod BitLaws
 pub mod ShiftLaws
 pub mod Counting
 pub mod SumBounds
+pub mod StoreLaws

@@ -1,0 +1,47 @@
+-- `bench::Bench::head` meets its contract: by what the line says. Assumes nothing.
+use borrow.Author.Needs.{needs}
+use mathlib.Core.Path.{refl}
+use native.Mathlib.Omega.{arith}
+use Rattle.bench.proofs.Turning.{put-nothing, turns-as, headed-bad, headed-good}
+use Rattle.bench.proofs.Bench.head.Statement.{statement}
+use Rattle.bench.proofs.Bench.head.Tie as tie
+
+read-header-requires : tie.Need-read-header-requires
+read-header-requires c κs = search needs
+
+bad-header-requires : tie.Need-bad-header-requires
+bad-header-requires c κs = search needs
+
+same-length : tie.Need-same-length
+same-length c = search needs
+
+returns : tie.Need-returns
+returns c =
+    let a = c .before .before .before .before .before .before .before .before .before .args in
+    let p = c .before .before .bad-header .ensures in
+    turns-as (headed-bad (a .self) (c .before .before .before .before .before .before .read-header .result) (c .before .before .before .before .before .before .read-header .ensures) (c .before .before .before .before .if1 .taken)) (record { bench = refl; puts = p; few = omega arith; going = λ e. absurd (omega arith) })
+
+begin-requires : tie.Need-begin-requires
+begin-requires c κs = search needs
+
+empty-requires : tie.Need-empty-requires
+empty-requires c κs = search needs
+
+returns-2 : tie.Need-returns-2
+returns-2 c =
+    let a = c .before .before .before .before .before .before .before .args in
+    let h = c .before .before .before .before .read-header .result in
+    turns-as (headed-good (a .self) h (c .before .before .before .before .read-header .ensures) (c .before .before .if1 .left))
+    (record { bench = λ i. record { night = c .before .begin .ensures i; posts = h .posts; places = h .places; number = 0; mode = 1; line = c .empty .ensures i }; puts = put-nothing _ _; few = omega arith; going = λ e. omega arith })
+
+pub head-spec : {M : Type 1} → statement M
+head-spec =
+    tie.close
+    (tie.spec
+    read-header-requires
+    bad-header-requires
+    same-length
+    returns
+    begin-requires
+    empty-requires
+    returns-2)

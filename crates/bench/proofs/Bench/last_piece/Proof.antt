@@ -1,0 +1,29 @@
+-- `bench::Bench::last_piece` meets its contract. Assumes nothing.
+use borrow.Author.Needs.{needs}
+use mathlib.Core.Path.{refl, _∙_, sym}
+use native.Mathlib.Omega.{arith}
+use Rattle.bench.proofs.Turning.{put-nothing, turns-as}
+use Rattle.bench.proofs.Feeding.{pending, none-pending}
+use Rattle.bench.proofs.Bench.last_piece.Statement.{statement}
+use Rattle.bench.proofs.Bench.last_piece.Tie as tie
+
+is-pending-requires : tie.Need-is-pending-requires
+is-pending-requires c κs = search needs
+
+turn-requires : tie.Need-turn-requires
+turn-requires c κs = search needs
+
+same-length : tie.Need-same-length
+same-length c = search needs
+
+returns : tie.Need-returns
+returns c = turns-as (pending (c .before .before .before .before .before .before .before .before .args .self) (sym (c .before .before .before .before .before .is-pending .ensures) ∙ c .before .before .before .before .if1 .taken)) (c .before .before .turn .ensures)
+
+returns-2 : tie.Need-returns-2
+returns-2 c =
+    turns-as (none-pending (c .before .before .before .before .args .self) (sym (c .before .is-pending .ensures) ∙ c .if1 .left))
+    (record { bench = refl; puts = put-nothing _ _; few = omega arith; going = λ e. omega arith })
+
+pub last-piece-spec : {M : Type 1} → statement M
+last-piece-spec =
+    tie.close (tie.spec is-pending-requires turn-requires same-length returns returns-2)

@@ -1,0 +1,35 @@
+-- `bench::last_line` meets its contract. Assumes nothing.
+use borrow.Author.Needs.{needs}
+use Prim.Native.Nat.{ℕ}
+use mathlib.Core.Path.{ap₂}
+use native.Mathlib.Omega.{arith}
+use Rattle.bench.specs.Text.{lastLine}
+use Rattle.bench.specs.Bench.{lastOf}
+use Rattle.bench.proofs.Putting.{spelled, last-few}
+use Rattle.bench.proofs.last_line.Statement.{statement}
+use Rattle.bench.proofs.last_line.Tie as tie
+
+in-phases-requires : tie.Need-in-phases-requires
+in-phases-requires c κs = search needs
+
+in-phases-requires-2 : tie.Need-in-phases-requires-2
+in-phases-requires-2 c κs = search needs
+
+last-requires : tie.Need-last-requires
+last-requires c κs = search needs
+
+same-length : tie.Need-same-length
+same-length c = search needs
+
+returns : tie.Need-returns
+unfolding lastOf
+returns c =
+    let a = c .before .before .before .before .before .before .before .before .args in
+    let p = c .before .before .last .ensures in (
+      spelled (ap₂ (λ (h w : ℕ). lastLine (a .places) h w) (c .before .before .before .before .before .in-phases .ensures) (c .before .before .before .before .in-phases2 .ensures)) p,
+      omega (arith, last-few (a .places) (c .before .before .before .before .before .in-phases .result) (c .before .before .before .before .in-phases2 .result)),
+    )
+
+pub last-line-spec : {M : Type 1} → statement M
+last-line-spec =
+    tie.close (tie.spec in-phases-requires in-phases-requires-2 last-requires same-length returns)

@@ -1,0 +1,84 @@
+-- `bench::lines::in_range` meets its contract, by cases. Assumes nothing.
+use borrow.Author.Needs.{needs}
+use Prim.Native.Nat.{ℕ}
+use mathlib.Core.Path.{_≡_, ap, _∙_, sym}
+use mathlib.Core.Bool.{Bool, true, false, not, _&&_}
+use lib.Dec.{eqb}
+use borrow.Author.Tests.{not-true, not-false}
+use Rattle.laws.proofs.Ladders.{one-off, two-off, and-first, and-fails}
+use Rattle.bench.specs.Lines.{inside, inRange}
+use Rattle.bench.proofs.lines.in_range.Statement.{statement}
+use Rattle.bench.proofs.lines.in_range.Tie as tie
+
+enum-known-c : tie.Need-enum-known-c
+enum-known-c c = search needs
+
+inside-requires : tie.Need-inside-requires
+inside-requires c κs = search needs
+
+enum-known-c-2 : tie.Need-enum-known-c-2
+enum-known-c-2 c = search needs
+
+inside-requires-2 : tie.Need-inside-requires-2
+inside-requires-2 c κs = search needs
+
+enum-known-c-3 : tie.Need-enum-known-c-3
+enum-known-c-3 c = search needs
+
+inside-requires-3 : tie.Need-inside-requires-3
+inside-requires-3 c κs = search needs
+
+returns : tie.Need-returns
+unfolding inRange
+returns c =
+    let e = c .before .before .before .c3 .given .1 in
+    and-fails _ _ (sym (c .before .inside3 .ensures) ∙ not-true _ (c .if1 .taken)) (search needs) ∙ ap (inRange (c .before .before .before .before .before .args .n)) (sym e)
+
+inside-requires-4 : tie.Need-inside-requires-4
+inside-requires-4 c κs = search needs
+
+returns-2 : tie.Need-returns-2
+unfolding inRange
+returns-2 c =
+    let e = c .before .before .before .before .before .c3 .given .1 in
+    and-first _ _ (sym (c .before .before .before .inside3 .ensures) ∙ not-false _ (c .before .before .if1 .left)) (and-fails _ _ (sym (c .before .inside4 .ensures) ∙ not-true _ (c .if2 .taken)) (search needs)) ∙ ap (inRange (c .before .before .before .before .before .before .before .args .n)) (sym e)
+
+enum-told : tie.Need-enum-told
+enum-told c = search needs
+
+returns-3 : tie.Need-returns-3
+unfolding inRange
+returns-3 c = c .inside .ensures ∙ ap (inRange (c .before .before .before .before .args .n)) (sym (c .before .before .c .given .1))
+
+returns-4 : tie.Need-returns-4
+unfolding inRange
+returns-4 c = c .inside2 .ensures ∙ ap (inRange (c .before .before .before .before .args .n)) (sym (c .before .before .c2 .given .1))
+
+returns-5 : tie.Need-returns-5
+unfolding inRange
+returns-5 c =
+    let e = c .before .before .before .before .before .c3 .given .1 in
+    and-first _ _ (sym (c .before .before .before .inside3 .ensures) ∙ not-false _ (c .before .before .if1 .left)) (and-first _ _ (sym (c .before .inside4 .ensures) ∙ not-false _ (c .if2 .left)) (λ i. not (eqb (c .before .before .before .before .before .c3 .given .0 .0) (c .before .before .before .before .before .c3 .given .0 .1 .0)))) ∙ ap (inRange (c .before .before .before .before .before .before .before .args .n)) (sym e)
+
+returns-6 : tie.Need-returns-6
+unfolding inRange
+returns-6 c = ap (inRange (c .before .before .args .n)) (sym (c .enum-told .given .1))
+
+pub in-range-spec : {M : Type 1} → statement M
+in-range-spec =
+    tie.close
+    (tie.spec
+    enum-known-c
+    inside-requires
+    enum-known-c-2
+    inside-requires-2
+    enum-known-c-3
+    inside-requires-3
+    returns
+    inside-requires-4
+    returns-2
+    enum-told
+    returns-3
+    returns-4
+    returns-5
+    returns-6)

@@ -1,0 +1,42 @@
+-- `bench::lines::is_command` meets its contract: the text is put into a buffer of its own. Assumes nothing.
+use borrow.Author.Needs.{needs}
+use Prim.Native.Nat.{ℕ, _≤_}
+use mathlib.Core.Path.{_≡_, ap, _∙_, sym}
+use mathlib.Core.List.{List}
+use native.Mathlib.Omega.{arith}
+use lib.ListN.{length, take}
+use lib.Seq.{length-take-le}
+use Rattle.bench.specs.Search.{same}
+use Rattle.bench.specs.Lines.{kept}
+use Rattle.bench.proofs.Putting.{put-first, text-few}
+use Rattle.bench.proofs.lines.is_command.Statement.{statement}
+use Rattle.bench.proofs.lines.is_command.Tie as tie
+
+slice-aggregate-command : tie.Need-slice-aggregate-command
+slice-aggregate-command c = search needs
+
+command-requires : tie.Need-command-requires
+command-requires c κs = search needs
+
+array-share-prefix-bytes : tie.Need-array-share-prefix-bytes
+array-share-prefix-bytes c = omega (arith, text-few (c .before .before .before .args .c))
+
+slice-aggregate-is-text : tie.Need-slice-aggregate-is-text
+slice-aggregate-is-text c = sym (length-take-le (c .before .before .command .result) (c .before .before .command .last .0) (omega (arith, text-few (c .before .before .before .before .args .c))))
+
+is-text-requires : tie.Need-is-text-requires
+is-text-requires c κs = search needs
+
+returns : tie.Need-returns
+returns c = c .is-text .ensures ∙ ap (λ (s : List ℕ). same s (kept (c .before .before .before .before .before .args .line))) (put-first (c .before .before .before .command .ensures) (text-few (c .before .before .before .before .before .args .c)))
+
+pub is-command-spec : {M : Type 1} → statement M
+is-command-spec =
+    tie.close
+    (tie.spec
+    slice-aggregate-command
+    command-requires
+    array-share-prefix-bytes
+    slice-aggregate-is-text
+    is-text-requires
+    returns)

@@ -1,0 +1,43 @@
+-- `bench::lines::is_header` meets its contract: the text is put into a buffer of its own. Assumes nothing.
+use borrow.Author.Needs.{needs}
+use Prim.Native.Nat.{ℕ, _≤_}
+use mathlib.Core.Path.{_≡_, ap, _∙_, sym}
+use mathlib.Core.List.{List}
+use native.Mathlib.Omega.{arith}
+use lib.ListN.{length, take}
+use lib.Seq.{length-take-le}
+use Rattle.bench.specs.Search.{same}
+use Rattle.bench.specs.Lines.{kept, headerText}
+use Rattle.bench.proofs.Putting.{put-first, pair-few}
+use Rattle.bench.proofs.lines.is_header.Statement.{statement}
+use Rattle.bench.proofs.lines.is_header.Tie as tie
+
+slice-aggregate-pair : tie.Need-slice-aggregate-pair
+slice-aggregate-pair c = search needs
+
+pair-requires : tie.Need-pair-requires
+pair-requires c κs = search needs
+
+array-share-prefix-bytes : tie.Need-array-share-prefix-bytes
+array-share-prefix-bytes c = omega (arith, pair-few (c .before .before .before .args .h .posts) (c .before .before .before .args .h .places))
+
+slice-aggregate-is-text : tie.Need-slice-aggregate-is-text
+slice-aggregate-is-text c = sym (length-take-le (c .before .before .pair .result) (c .before .before .pair .last .0) (omega (arith, pair-few (c .before .before .before .before .args .h .posts) (c .before .before .before .before .args .h .places))))
+
+is-text-requires : tie.Need-is-text-requires
+is-text-requires c κs = search needs
+
+returns : tie.Need-returns
+unfolding headerText
+returns c = c .is-text .ensures ∙ ap (λ (s : List ℕ). same s (kept (c .before .before .before .before .before .args .line))) (put-first (c .before .before .before .pair .ensures) (pair-few (c .before .before .before .before .before .args .h .posts) (c .before .before .before .before .before .args .h .places)))
+
+pub is-header-spec : {M : Type 1} → statement M
+is-header-spec =
+    tie.close
+    (tie.spec
+    slice-aggregate-pair
+    pair-requires
+    array-share-prefix-bytes
+    slice-aggregate-is-text
+    is-text-requires
+    returns)

@@ -1,0 +1,49 @@
+-- `bench::lines::number_at` meets its contract. Assumes nothing.
+use borrow.Author.Needs.{needs}
+use mathlib.Core.Path.{ap, _∙_}
+use native.Mathlib.Omega.{arith}
+use Rattle.bench.specs.Inside.{digit}
+use Rattle.bench.proofs.Digits.{number-two, number-one}
+use Rattle.bench.proofs.lines.number_at.Statement.{statement}
+use Rattle.bench.proofs.lines.number_at.Tie as tie
+
+byte-at-requires : tie.Need-byte-at-requires
+byte-at-requires c κs = search needs
+
+digit-requires : tie.Need-digit-requires
+digit-requires c κs = search needs
+
+add-byte-at : tie.Need-add-byte-at
+add-byte-at c = search needs
+
+byte-at-requires-2 : tie.Need-byte-at-requires-2
+byte-at-requires-2 c κs = search needs
+
+digit-requires-2 : tie.Need-digit-requires-2
+digit-requires-2 c κs = search needs
+
+mul-result : tie.Need-mul-result
+mul-result c = search needs
+
+add-result : tie.Need-add-result
+add-result c = search needs
+
+returns : tie.Need-returns
+returns c = number-two _ _ _ (c .before .digit2 .ensures .0 ∙ ap digit (c .before .before .byte-at2 .ensures)) _ (c .before .before .before .digit .ensures .0 ∙ ap digit (c .before .before .before .before .byte-at .ensures)) (c .if1 .taken)
+
+returns-2 : tie.Need-returns-2
+returns-2 c = number-one _ _ _ (c .before .digit2 .ensures .0 ∙ ap digit (c .before .before .byte-at2 .ensures)) _ (c .before .before .before .digit .ensures .0 ∙ ap digit (c .before .before .before .before .byte-at .ensures)) (c .if1 .left)
+
+pub number-at-spec : {M : Type 1} → statement M
+number-at-spec =
+    tie.close
+    (tie.spec
+    byte-at-requires
+    digit-requires
+    add-byte-at
+    byte-at-requires-2
+    digit-requires-2
+    mul-result
+    add-result
+    returns
+    returns-2)

@@ -1,0 +1,24 @@
+-- `bench::text::lettered` meets its contract. Assumes nothing.
+use borrow.Author.Needs.{needs}
+use Rattle.bench.proofs.Putting.{then}
+use Rattle.bench.proofs.text.lettered.Statement.{statement}
+use Rattle.bench.proofs.text.lettered.Tie as tie
+
+byte-requires : tie.Need-byte-requires
+byte-requires c κs = search needs
+
+byte-requires-2 : tie.Need-byte-requires-2
+byte-requires-2 c κs = search needs
+
+number-requires : tie.Need-number-requires
+number-requires c κs = search needs
+
+same-length : tie.Need-same-length
+same-length c = search needs
+
+returns : tie.Need-returns
+returns c = then (c .before .before .before .before .before .before .before .before .before .before .byte .ensures) (then (c .before .before .before .before .before .before .byte2 .ensures) (c .before .before .number .ensures))
+
+pub lettered-spec : {M : Type 1} → statement M
+lettered-spec =
+    tie.close (tie.spec byte-requires byte-requires-2 number-requires same-length returns)

@@ -1,0 +1,7 @@
+pub mod Text
+pub mod Search
+pub mod Lines
+pub mod Night
+pub mod Bench
+pub mod Output
+pub mod Inside

@@ -1,0 +1,94 @@
+-- A night: the records, the messages sent, and how far each post has read of each other's. What a command does to it.
+use mathlib.Core.Bool.{Bool, false, cond, _&&_}
+use mathlib.Core.List.{List, [], _∷_, map}
+use Prim.Native.Nat.{ℕ, _+_, _*_}
+use lib.Dec.{leb, ltb, eqb}
+use lib.ListN.{getD, take, drop, set, replicate}
+use Rattle.frame.specs.declared.Message.{Message}
+use Rattle.frame.specs.Message.{blank, by}
+use Rattle.frame.specs.Frame.{fieldsOf, bytesAfter}
+use Rattle.post.specs.declared.Post.{Post}
+use Rattle.post.specs.declared.Answer.{Answer}
+use Rattle.post.specs.Calls.{started, took, tookBytes, gaveBack, gaveBackBytes, received, receivedBytes}
+use Rattle.bench.specs.declared.Night.{Night}
+use Rattle.bench.specs.declared.calls.Called.{Called}
+use Rattle.bench.specs.declared.calls.Ran.{Ran}
+use Rattle.bench.specs.declared.lines.Command.{Command}
+use Rattle.bench.specs.declared.lines.Command.the-variants.{Take, Return, Deliver, Unknown}
+use Rattle.bench.specs.Search.{from}
+
+-- ---- calls on one post
+
+-- 12 zero bytes are lent
+abbrev pub lent : List ℕ
+lent = replicate 12 0
+
+-- a call's answer, and the message in the lent bytes after it
+abbrev pub called : Answer → List ℕ → Called
+called a bytes = record { answer = a; message = fieldsOf bytes .message }
+
+unfoldable pub takes : Post → Called
+takes p = called (took p lent) (tookBytes p lent)
+
+unfoldable pub givesBack : Post → Called
+givesBack p = called (gaveBack p lent) (gaveBackBytes p lent)
+
+-- the frame of m arrives
+unfoldable pub receives : Post → Message → Called
+receives p m = called (received p (bytesAfter lent 0 m) lent) (receivedBytes p (bytesAfter lent 0 m) lent)
+
+-- ---- the night
+
+-- post p of N on feeder 0 with K places; from N on, what a refused start gives
+unfoldable pub opened : ℕ → ℕ → ℕ → Post
+opened n k p = started n p 0 k .post
+
+unfoldable pub begun : ℕ → ℕ → Night
+begun n k = record { posts = map (opened n k) (from 0 16); sent = replicate 256 blank; count = 0; read = replicate 256 0 }
+
+abbrev pub postOf : Night → ℕ → Post
+postOf s p = getD (s .posts) p (opened 0 0 0)
+
+-- post p's record is the one handed back, and what was written is sent
+unfoldable pub after : Night → ℕ → Called → Night
+after s p c =
+    let sends = c .answer .wrote && ltb (s .count) 256 in
+    record {
+      posts = set (s .posts) p (c .answer .post);
+      sent = cond sends (set (s .sent) (s .count) (c .message)) (s .sent);
+      count = cond sends (s .count + 1) (s .count);
+      read = s .read;
+    }
+
+-- the place of the first message of post p in a list that starts at place i; 256 where there is none
+unfoldable pub seek : ℕ → ℕ → List Message → ℕ
+seek p i [] = 256
+seek p i (m ∷ ms) = cond (by p m) i (seek p (i + 1) ms)
+
+-- the place of the next message of p that q has not accepted
+unfoldable pub nextOf : Night → ℕ → ℕ → ℕ
+nextOf s p q = let i = getD (s .read) (16 * p + q) 0 in seek p i (drop i (take (s .count) (s .sent)))
+
+-- q has read of p up to place i
+unfoldable pub passed : Night → ℕ → ℕ → ℕ → Night
+passed s p q i = record { posts = s .posts; sent = s .sent; count = s .count; read = set (s .read) (16 * p + q) (i + 1) }
+
+-- ---- commands
+
+abbrev pub refused : Night → ℕ → Ran
+refused s n = record { night = s; number = n; granted = false }
+
+abbrev pub answered : Night → Called → Ran
+answered s c = record { night = s; number = c .answer .number; granted = c .answer .granted }
+
+-- q is offered the message at place i; refused, it stays next
+unfoldable pub offered : Night → ℕ → ℕ → ℕ → Ran
+offered s p q i =
+    let c = receives (postOf s q) (getD (s .sent) i blank) in
+    answered (cond (eqb (c .answer .number) 0) (passed (after s q c) p q i) (after s q c)) c
+
+unfoldable pub ran : Night → Command → Ran
+ran s (Take p) = let c = takes (postOf s p) in answered (after s p c) c
+ran s (Return p) = let c = givesBack (postOf s p) in answered (after s p c) c
+ran s (Deliver p q) = cond (leb 256 (nextOf s p q)) (refused s 15) (offered s p q (nextOf s p q))
+ran s Unknown = refused s 16
