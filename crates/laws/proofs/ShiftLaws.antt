@@ -2,13 +2,13 @@
 use Prim.Native.Nat.{ℕ, zero, suc, _+_, _-_, _≤_, _<_}
 use mathlib.Core.Path.{_≡_, refl, ap, ap₂, _∙_, sym, subst}
 use mathlib.Core.Logic.{inl, inr}
-use mathlib.Core.List.{List, [], _∷_, _++_, append-assoc, append-nil}
+use mathlib.Core.List.{List, [], _∷_, _++_, append-assoc}
 use native.Mathlib.Omega.{arith}
 use native.Mathlib.Nat.{zero-add}
 use native.Mathlib.Numerals.{add-one}
 use borrow.Author.Tests.{lt-ltb, le-ltb}
-use lib.ListN.{length, getD, take, drop, set, replicate, length-set, length-append, length-replicate, getD-replicate, take-append-drop, List·getD-append}
-use lib.Seq.{slice, slice-empty, slice-cons, take-take, take-set-le, drop-set-lt, drop-cons, set-split, getD-take, getD-drop, getD-set-same, getD-append-add, length-slice, length-take-le, paste, paste-zero, paste-suc, length-paste, drop-paste, take-all}
+use lib.ListN.{length, getD, take, drop, set, replicate, length-set, length-append, length-replicate, getD-replicate, List·getD-append}
+use lib.Seq.{slice, slice-empty, slice-cons, take-take, take-set-le, drop-set-lt, drop-cons, set-split, getD-take, getD-drop, getD-set-same, getD-append-add, length-slice, paste, paste-zero, paste-suc, drop-paste, take-all}
 use Rattle.laws.specs.Lists.{In, put}
 
 -- ---- a message put in its place
@@ -92,17 +92,6 @@ module _ {A : Type 0} (z : A) (l : List A) (k n : ℕ) (h : k ≤ n) (m : n ≤ 
   pub none-moved : Moved z l k n l 0
   none-moved = record { far = omega arith; is = paste-zero l 0 (front z l k n) }
 
-  -- nothing to move
-  pub all-there : k ≡ 0 → Moved z l k n l n
-  all-there e = record {
-    far = omega arith;
-    is =
-        sym (take-append-drop n l)
-        ∙ ap₂ (λ (x : List A) (y : ℕ). x ++ drop y l)
-        (sym (take-all n (take n l ++ []) (let a = append-nil (take n l) in let b = ap length a in let c = length-take-le n l m in omega arith) ∙ append-nil (take n l)) ∙ ap (λ (x : ℕ). take n (slice x n l ++ replicate x z)) (sym e))
-        (sym (zero-add n));
-  }
-
   module _ {cur : List A} {j : ℕ} (v : Moved z l k n cur j) where
     stored : (a : A) → j < n → a ≡ getD (front z l k n) j z → Moved z l k n (set cur j a) (j + 1)
     stored a q e =
@@ -115,9 +104,6 @@ module _ {A : Type 0} (z : A) (l : List A) (k n : ℕ) (h : k ≤ n) (m : n ≤ 
               ∙ paste-suc l 0 (front z l k n) j z (omega arith) (omega arith)
               ∙ ap (paste l 0 (front z l k n)) (sym (add-one j));
         }
-
-    pub length-moved : length cur ≡ length l
-    length-moved = let f = new-length in let g = v .far in ap length (v .is) ∙ length-paste l 0 (front z l k n) j (omega arith) (omega arith)
 
     -- one more moved, out of its old place
     pub one-moved : j < n - k → Moved z l k n (set cur j (getD cur (k + j) z)) (j + 1)

@@ -248,24 +248,17 @@ pub(crate) fn leaving(slots: [Message; 62], n: usize, floor: u64, own: u8, takes
     }
 }
 
-// Where to start moving the rest of n messages to the front once k have left: past them where none has.
-fn from(n: usize, k: usize) -> usize
-    ensures { λ r. ⌜ r ≡ cond (eqb k 0) n 0 ⌝ }
-{
-    if k == 0 {
-        return n;
-    }
-    0
-}
-
-// The messages from k to n moved to the front, and zeros after them.
+// The messages from k to n moved to the front, and zeros after them; none moves where none leaves.
 pub(crate) fn drop_first(slots: [Message; 62], n: usize, k: usize) -> [Message; 62]
     requires { ⌜ (k ≤ n) × (n ≤ 62) × (drop n slots ≡ replicate (62 - n) blank) ⌝ }
     ensures { λ r. ⌜ r ≡ inSlots (drop k (take n slots)) ⌝ }
 {
+    if k == 0 {
+        return slots;
+    }
     let mut next = slots;
     let m = n - k;
-    let mut j = from(n, k);
+    let mut j = 0;
     while j < m {
         next[j] = next[k + j];
         j += 1;

@@ -1,13 +1,8 @@
-use borrow.Author.Needs.{needs}
-use Rattle.laws.proofs.Ladders.{picks, tests}
+use mathlib.Core.Path.{refl}
+use borrow.Author.Tests.{eq-eqb, ne-eqb}
+use Rattle.laws.proofs.Ladders.{and-first, and-fails, not-on, not-off}
 use Rattle.post.proofs.is_grant.Statement.{statement}
 use Rattle.post.proofs.is_grant.Tie as tie
 
-returns : tie.Need-returns
-returns c = search (tests, picks, needs) depth 6
-
-returns-2 : tie.Need-returns-2
-returns-2 c = search (tests, picks, needs) depth 6
-
 pub is-grant-spec : {M : Type 1} → statement M
-is-grant-spec = tie.close (tie.spec returns returns-2)
+is-grant-spec = tie.close (tie.spec (λ c. and-fails _ _ (not-off _ (eq-eqb _ _ (c .if1 .taken))) refl) (λ c. and-first _ _ (not-on _ (ne-eqb _ _ (c .if1 .left))) refl))

@@ -1,13 +1,8 @@
-use borrow.Author.Needs.{needs}
-use Rattle.laws.proofs.Ladders.{tests}
+use mathlib.Core.Path.{refl}
+use borrow.Author.Tests.{eq-eqb, ne-eqb}
+use Rattle.laws.proofs.Ladders.{and-first, and-fails}
 use Rattle.post.proofs.rules.is_crowd.Statement.{statement}
 use Rattle.post.proofs.rules.is_crowd.Tie as tie
 
-returns : tie.Need-returns
-returns c = search (tests, needs) depth 6
-
-returns-2 : tie.Need-returns-2
-returns-2 c = search (tests, needs) depth 6
-
 pub is-crowd-spec : {M : Type 1} → statement M
-is-crowd-spec = tie.close (tie.spec returns returns-2)
+is-crowd-spec = tie.close (tie.spec (λ c. and-fails _ _ (ne-eqb _ _ (c .if1 .taken)) refl) (λ c. and-first _ _ (eq-eqb _ _ (c .if1 .left)) refl))

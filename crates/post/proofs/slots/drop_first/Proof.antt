@@ -1,16 +1,15 @@
 -- Both loops store, one place a turn, what is to stand in the first n places. Assumes nothing.
 use borrow.Author.Needs.{needs}
 use Prim.Native.Nat.{ℕ, _+_, _-_, _≤_}
-use mathlib.Core.Path.{_≡_, ap, _∙_, sym, subst}
+use mathlib.Core.Path.{_≡_, ap, _∙_, sym}
 use mathlib.Core.List.{List, _++_, append-assoc}
 use native.Mathlib.Omega.{arith}
-use lib.Dec.{eqb, eqb→eq}
-use lib.ListN.{length, replicate, replicate-append-replicate}
-use lib.Seq.{slice, length-slice}
-use Rattle.laws.proofs.Tests.{cond-both}
-use Rattle.laws.proofs.ShiftLaws.{Moved, none-moved, all-there, one-moved, one-cleared, all-moved}
+use lib.ListN.{length, take, drop, replicate, take-append-drop, replicate-append-replicate}
+use lib.Seq.{slice, length-slice, length-take-le}
+use Rattle.laws.proofs.ShiftLaws.{Moved, none-moved, one-moved, one-cleared, all-moved}
 use Rattle.frame.specs.declared.Message.{Message}
 use Rattle.frame.specs.Message.{blank}
+use Rattle.post.specs.Record.{inSlots}
 use Rattle.post.proofs.slots.drop_first.Statement.{statement}
 use Rattle.post.proofs.slots.drop_first.Tie as tie
 
@@ -30,17 +29,20 @@ abbrev μ-loop2 : tie.MeasureT-loop2
 long : (c : tie.Start Inv-loop μ-loop Inv-loop2 μ-loop2) → length (c .args .slots) ≡ 62
 long c = search needs
 
-loop-holds : tie.Need-loop-holds Inv-loop μ-loop Inv-loop2 μ-loop2
-loop-holds c =
+returns : tie.Need-returns Inv-loop μ-loop Inv-loop2 μ-loop2
+returns c =
     let a = c .before .args in
     let l = long (c .before) in
-    let h = c .before .pre in (
-      subst (Moved blank (a .slots) (a .k) (a .n) (a .slots)) (sym (c .from .ensures))
-          (cond-both (Moved blank (a .slots) (a .k) (a .n) (a .slots)) (eqb (a .k) 0) (a .n) 0
-          (λ y. all-there blank (a .slots) (a .k) (a .n) (h .0) (omega arith) (eqb→eq (a .k) 0 y))
-          (λ y. none-moved blank (a .slots) (a .k) (a .n) (h .0) (omega arith))),
-      l,
-    )
+    let h = c .before .pre in
+    let w = take (a .n) (a .slots) in
+    sym (take-append-drop (a .n) (a .slots))
+    ∙ ap (λ (x : List Message). w ++ x) (h .2 ∙ ap (λ (x : ℕ). replicate (62 - x) blank) (sym (length-take-le (a .n) (a .slots) (omega arith))))
+    ∙ ap (λ (x : ℕ). inSlots (drop x w)) (sym (c .if1 .taken))
+
+loop-holds : tie.Need-loop-holds Inv-loop μ-loop Inv-loop2 μ-loop2
+loop-holds c =
+    let l = long (c .before) in
+    (none-moved blank _ _ _ (c .before .pre .0) (omega arith), l)
 
 loop-again : tie.Need-loop-again Inv-loop μ-loop Inv-loop2 μ-loop2
 loop-again c =
@@ -58,8 +60,8 @@ loop2-again c =
     let i = c .before .loop2 .inv in
     (λ l h g v. one-cleared blank l _ _ h g (i .0 l h g v) (i .2) (omega arith), search needs, omega arith)
 
-returns : tie.Need-returns Inv-loop μ-loop Inv-loop2 μ-loop2
-returns c =
+returns-2 : tie.Need-returns-2 Inv-loop μ-loop Inv-loop2 μ-loop2
+returns-2 c =
     let a = c .before .before .before .before .before .args in
     let l = long (c .before .before .before .before .before) in
     let h = c .before .before .before .before .before .pre in
@@ -79,8 +81,8 @@ drop-first-spec =
     μ-loop
     Inv-loop2
     μ-loop2
+    returns
     (λ c. search needs)
-    (λ c κs. search needs)
     loop-holds
     (λ c. search needs)
     (λ c. search needs)
@@ -96,4 +98,4 @@ drop-first-spec =
     (λ c. search needs)
     (λ c. search needs)
     loop2-again
-    returns)
+    returns-2)

@@ -1,13 +1,8 @@
-use borrow.Author.Needs.{needs}
-use Rattle.laws.proofs.Ladders.{picks}
+use mathlib.Core.Path.{refl}
+use borrow.Author.Tests.{eq-eqb, ne-eqb}
+use Rattle.laws.proofs.Ladders.{on, off}
 use Rattle.post.proofs.slots.end_kind.Statement.{statement}
 use Rattle.post.proofs.slots.end_kind.Tie as tie
 
-returns : tie.Need-returns
-returns c = search (picks, needs) depth 8
-
-returns-2 : tie.Need-returns-2
-returns-2 c = search (picks, needs) depth 8
-
 pub end-kind-spec : {M : Type 1} → statement M
-end-kind-spec = tie.close (tie.spec returns returns-2)
+end-kind-spec = tie.close (tie.spec (λ c. on _ _ _ (eq-eqb _ _ (c .if1 .taken)) refl) (λ c. off _ _ _ (ne-eqb _ _ (c .if1 .left)) refl))

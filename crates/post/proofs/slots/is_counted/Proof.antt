@@ -1,13 +1,8 @@
-use borrow.Author.Needs.{needs}
-use Rattle.laws.proofs.Ladders.{tests}
+use mathlib.Core.Path.{refl}
+use borrow.Author.Tests.{eq-eqb, ne-eqb}
+use Rattle.laws.proofs.Ladders.{or-passes, or-after}
 use Rattle.post.proofs.slots.is_counted.Statement.{statement}
 use Rattle.post.proofs.slots.is_counted.Tie as tie
 
-returns : tie.Need-returns
-returns c = search (tests, needs) depth 8
-
-returns-2 : tie.Need-returns-2
-returns-2 c = search (tests, needs) depth 8
-
 pub is-counted-spec : {M : Type 1} → statement M
-is-counted-spec = tie.close (tie.spec returns returns-2)
+is-counted-spec = tie.close (tie.spec (λ c. or-passes _ _ (eq-eqb _ _ (c .if1 .taken)) refl) (λ c. or-after _ _ (ne-eqb _ _ (c .before .if1 .left)) refl))
