@@ -11,3 +11,4 @@ pub mod Running
 pub mod Reading
 pub mod Sessions
 pub mod WholeNights
+pub mod Fits

@@ -1,5 +1,5 @@
 -- What bytes write one by one is the output of the lines that they make. Assumes nothing.
-use mathlib.Core.Path.{_≡_, refl, ap, _∙_, sym, subst}
+use mathlib.Core.Path.{_≡_, refl, ap, _∙_, sym}
 use mathlib.Core.Logic.{⊎-elim}
 use mathlib.Core.Bool.{Bool, true, false, not, cond, _&&_, _||_}
 use mathlib.Core.List.{List, [], _∷_, _++_, append-nil}
@@ -7,22 +7,19 @@ use Prim.Native.Nat.{ℕ, _+_, _≤_, _<_, min}
 use native.Mathlib.Omega.{arith}
 use native.Mathlib.Nat.{min-eq-left, min-eq-right}
 use borrow.Author.Tests.{eq-eqb, ne-eqb, lt-ltb, le-ltb, lt-leb}
-use lib.Dec.{T, leb, ltb, eqb, eqb→eq}
-use lib.Ieee.Bits.{is-true, is-false}
+use lib.Dec.{ltb, eqb, eqb→eq}
 use lib.ListN.{length, length-append}
 use Rattle.laws.proofs.Tests.{test, neqb→ne, leb-total}
-use Rattle.laws.proofs.Ladders.{on, off}
 use Rattle.bench.specs.declared.Night.{Night}
 use Rattle.bench.specs.declared.Bench.{Bench}
 use Rattle.bench.specs.declared.lines.Header.{Header}
 use Rattle.bench.specs.declared.lines.Command.{Command}
 use Rattle.bench.specs.declared.lines.Command.the-variants.{Unknown}
-use Rattle.bench.specs.declared.calls.Ran.{Ran}
 use Rattle.bench.specs.Search.{first, same, from, pairs}
 use Rattle.bench.specs.Text.{decimal, answerLine, badHeader}
-use Rattle.bench.specs.Lines.{empty, pushed, kept, headerOf, headerText, commandOf}
+use Rattle.bench.specs.Lines.{empty, headerOf, headerText, commandOf}
 use Rattle.bench.specs.Night.{begun, ran}
-use Rattle.bench.specs.Bench.{Step, writes, isOver, over, longer, headed, answers, stops, turned, plain, stepped, lastOf, lastPiece, closed, ending, unfed}
+use Rattle.bench.specs.Bench.{Step, writes, over, longer, headed, stops, turned, plain, stepped, lastOf, lastPiece, closed, ending, unfed}
 use Rattle.bench.specs.Output.{linesFrom, answersTo, nightOf, nightFrom, output}
 use Rattle.bench.proofs.Turning.{answers-is, turned-header, turned-command, turned-stop}
 use Rattle.bench.proofs.Feeding.{pending, none-pending}

@@ -1,13 +1,13 @@
 -- Bytes fed in pieces and written to buffers are what the bytes write one by one. Assumes nothing.
-use mathlib.Core.Path.{_≡_, refl, ap, _∙_, sym, subst}
-use mathlib.Core.Bool.{Bool, true, false, true≢false, not, cond, _||_}
-use mathlib.Core.List.{List, [], _∷_, _++_, append-assoc, append-nil}
-use Prim.Native.Nat.{ℕ, suc, _+_, _-_, _≤_, _<_}
+use mathlib.Core.Path.{_≡_, refl, ap, _∙_, sym}
+use mathlib.Core.Bool.{Bool, true, false, not, cond, _||_}
+use mathlib.Core.List.{List, [], _∷_, _++_, append-assoc}
+use Prim.Native.Nat.{ℕ, suc, _+_, _-_, _≤_}
 use native.Mathlib.Omega.{arith}
-use borrow.Author.Tests.{ltb-false, le-ltb, le-leb}
-use lib.Dec.{T, leb, ltb, eqb, eqb→eq}
+use borrow.Author.Tests.{le-ltb}
+use lib.Dec.{T, ltb, eqb, eqb→eq}
 use lib.ListN.{length, take, drop, length-append}
-use lib.Seq.{sets, length-sets, drop-nil}
+use lib.Seq.{sets, length-sets}
 use Rattle.laws.proofs.StoreLaws.{take-sets}
 use Rattle.bench.specs.declared.Bench.{Bench}
 use Rattle.bench.specs.declared.lines.Header.{Header}
@@ -84,7 +84,7 @@ turned-few b = go (eqb (b .mode) 0) (ltb (b .number) 256)
     go false true = answers-few b
     go false false = stops-few b
 
-stepped-few : (b : Bench) (x : ℕ) → length (stepped b x .text) ≤ 64
+pub stepped-few : (b : Bench) (x : ℕ) → length (stepped b x .text) ≤ 64
 unfolding stepped
 stepped-few b x = go (plain b x)
   where
@@ -104,7 +104,7 @@ closed-few s f = go (eqb (s .bench .mode) 1) (λ t. eqb→eq (s .bench .mode) 1 
         omega arith
     go false h = let l = length-append (s .text) [] in let m = f .0 in omega arith
 
-ending-few : (b : Bench) → length (ending b) ≤ 64
+pub ending-few : (b : Bench) → length (ending b) ≤ 64
 unfolding ending lastPiece
 ending-few b = go (isOver b) (eqb (b .mode) 0 || not (eqb (b .line .len) 0))
   where
