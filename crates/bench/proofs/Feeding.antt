@@ -1,21 +1,19 @@
 -- A turn of feed's loop, and its end; what finish writes. Assumes nothing.
 use mathlib.Core.Path.{_≡_, refl, ap, _∙_, sym}
-use mathlib.Core.Bool.{Bool, true, false, true≢false, not, cond, _&&_, _||_}
-use mathlib.Core.List.{List, [], _∷_, _++_, append-nil}
+use mathlib.Core.Bool.{Bool, true, false, true≢false, not, _||_}
+use mathlib.Core.List.{List, [], append-nil}
 use Prim.Native.Nat.{ℕ, _+_, _-_, _≤_, _<_}
 use native.Mathlib.Omega.{arith}
 use borrow.Author.Tests.{ltb-false, eq-eqb, ne-eqb, lt-ltb, le-ltb, le-leb, lt-leb}
-use lib.Dec.{leb, ltb, eqb}
+use lib.Dec.{ltb, eqb}
 use lib.ListN.{length, getD, drop, drop-of-length-le}
 use lib.Seq.{sets}
-use Rattle.laws.proofs.Ladders.{on, off}
 use Rattle.laws.proofs.ScanLaws.{next-drop}
 use Rattle.bench.specs.declared.Bench.{Bench}
 use Rattle.bench.specs.declared.Turned.{Turned}
-use Rattle.bench.specs.declared.Finished.{Finished}
 use Rattle.bench.specs.Text.{Puts}
 use Rattle.bench.proofs.Putting.{then, spelled}
-use Rattle.bench.specs.Bench.{Step, writes, isOver, longer, plain, turned, stepped, feeding, Feeding, Feeds, lastOf, lastPiece, closed, ending, finished, finishedBytes, Ends, Turns}
+use Rattle.bench.specs.Bench.{Step, writes, isOver, longer, plain, turned, stepped, feeding, Feeding, lastOf, lastPiece, closed, ending, finished, finishedBytes, Ends, Turns}
 
 -- what feed hands back when it stops
 abbrev stopped : Bench → ℕ → ℕ → List ℕ → Feeding

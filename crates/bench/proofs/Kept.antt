@@ -1,16 +1,16 @@
 -- The first 8 bytes of a line are enough: no text of a command or header has 8. Assumes nothing.
-use mathlib.Core.Path.{_≡_, refl, ap, ap₂, _∙_, sym, subst}
+use mathlib.Core.Path.{_≡_, refl, ap, _∙_, sym}
 use mathlib.Core.Logic.{⊎-elim}
-use mathlib.Core.Bool.{Bool, true, false, cond}
+use mathlib.Core.Bool.{cond}
 use mathlib.Core.List.{List, [], _∷_, _++_}
-use Prim.Native.Nat.{ℕ, suc, _+_, _≤_, _<_, min}
+use Prim.Native.Nat.{ℕ, _+_, _≤_, _<_, min}
 use native.Mathlib.Omega.{arith}
 use native.Mathlib.Nat.{min-eq-left, min-eq-right}
 use native.Mathlib.Numerals.{add-one}
 use borrow.Author.Tests.{lt-ltb, le-ltb}
 use lib.Dec.{T, ltb, ltb→lt}
 use lib.ListN.{length, take, set, length-take, length-set, length-append}
-use lib.Seq.{take-all, take-suc-set, take-append-le, length-take-le}
+use lib.Seq.{take-all, take-suc-set, take-append-le}
 use Rattle.laws.specs.Lists.{In, keep, all}
 use Rattle.laws.proofs.Tests.{same-test, leb-total}
 use Rattle.laws.proofs.ListLaws.{keep-in}
@@ -18,8 +18,8 @@ use Rattle.laws.proofs.ScanLaws.{all-at}
 use Rattle.bench.specs.declared.Line.{Line}
 use Rattle.bench.specs.declared.lines.Command.{Command}
 use Rattle.bench.specs.declared.lines.Header.{Header}
-use Rattle.bench.specs.declared.lines.Command.the-variants.{Take, Return, Deliver, Unknown}
-use Rattle.bench.specs.Search.{first, same, from, pairs}
+use Rattle.bench.specs.declared.lines.Command.the-variants.{Unknown}
+use Rattle.bench.specs.Search.{same, from, pairs}
 use Rattle.bench.specs.Text.{decimal, text}
 use Rattle.bench.specs.Lines.{empty, pushed, kept, inRange, everyCommand, commandOf, heading, headerText, headerOf}
 use Rattle.bench.proofs.SearchLaws.{same→eq, eq→same, first-cong}

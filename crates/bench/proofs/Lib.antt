@@ -7,3 +7,8 @@ pub mod Turning
 pub mod Feeding
 pub mod Unique
 pub mod Kept
+pub mod Running
+pub mod Reading
+pub mod Sessions
+pub mod WholeNights
+pub mod Fits

@@ -1,18 +1,18 @@
 -- Steps of the calls, from what the code's tests say. Assumes nothing.
 use mathlib.Core.Path.{_≡_, refl, ap, _∙_, sym}
-use mathlib.Core.Bool.{Bool, true, false, not, cond, _&&_}
+use mathlib.Core.Bool.{true, false, not, cond, _&&_}
 use mathlib.Core.List.{List, [], _∷_}
-use Prim.Native.Nat.{ℕ, zero, suc, _+_, _*_, _≤_, _<_}
+use Prim.Native.Nat.{ℕ, zero, suc, _+_, _≤_, _<_}
 use native.Mathlib.Omega.{arith}
 use native.Mathlib.Nat.{min-le-left}
 use borrow.Author.Tests.{eq-eqb, ne-eqb, not-true, not-false, lt-ltb, le-ltb, le-leb, lt-leb}
 use lib.Dec.{leb, ltb, eqb}
-use lib.ListN.{length, getD, set, take, drop, length-take, drop-of-length-le}
+use lib.ListN.{length, getD, set, take, length-take, drop-of-length-le}
 use lib.Seq.{slice, take-all}
 use Rattle.laws.proofs.Ladders.{on, off, one-off, two-off, both-on}
 use Rattle.laws.proofs.ScanLaws.{next}
 use Rattle.frame.specs.declared.Message.{Message}
-use Rattle.frame.specs.Message.{blank, by}
+use Rattle.frame.specs.Message.{blank}
 use Rattle.post.specs.declared.Post.{Post}
 use Rattle.bench.specs.declared.Night.{Night}
 use Rattle.bench.specs.declared.calls.Called.{Called}

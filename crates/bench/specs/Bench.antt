@@ -9,7 +9,6 @@ use lib.Seq.{sets}
 use Rattle.laws.specs.Lists.{many}
 use Rattle.post.specs.declared.Post.{Post}
 use Rattle.bench.specs.declared.Night.{Night}
-use Rattle.bench.specs.declared.Line.{Line}
 use Rattle.bench.specs.declared.Bench.{Bench}
 use Rattle.bench.specs.declared.Turned.{Turned}
 use Rattle.bench.specs.declared.Fed.{Fed}

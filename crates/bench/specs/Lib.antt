@@ -4,4 +4,5 @@ pub mod Lines
 pub mod Night
 pub mod Bench
 pub mod Output
+pub mod Session
 pub mod Inside

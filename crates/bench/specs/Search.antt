@@ -1,7 +1,7 @@
 -- Looking through lists: the first that passes a test, whether two lists of bytes are the same, runs of numbers and all pairs.
 use mathlib.Core.Bool.{Bool, true, false, cond, _&&_}
 use mathlib.Core.List.{List, [], _∷_, _++_, map}
-use Prim.Native.Nat.{ℕ, zero, suc, _+_}
+use Prim.Native.Nat.{ℕ, zero, suc}
 use lib.Dec.{eqb}
 
 -- the first that passes; d where none does

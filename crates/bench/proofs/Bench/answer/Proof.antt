@@ -1,7 +1,7 @@
 -- `bench::Bench::answer` meets its contract. Assumes nothing.
 use borrow.Author.Needs.{needs}
 use Prim.Native.Nat.{_+_}
-use mathlib.Core.Path.{_∙_, sym, subst}
+use mathlib.Core.Path.{sym, subst}
 use native.Mathlib.Omega.{arith}
 use Rattle.bench.specs.Inside.{Safe}
 use Rattle.bench.proofs.Guessing.{command-safe}

@@ -1,12 +1,12 @@
 -- `bench::Bench::feed` meets its contract: what is left gives the same as all. Assumes nothing.
 use borrow.Author.Needs.{needs}
-use Prim.Native.Nat.{ℕ, _+_, _-_, _≤_}
+use Prim.Native.Nat.{ℕ, _-_, _≤_}
 use mathlib.Core.Path.{_≡_, refl, ap, _∙_, sym, subst}
 use mathlib.Core.List.{List}
 use mathlib.Core.Logic.{⊎-elim}
 use native.Mathlib.Omega.{arith}
-use lib.ListN.{length, getD, drop}
-use Rattle.bench.specs.Bench.{Feeding, feeding, plain, turned, Turns}
+use lib.ListN.{length, drop}
+use Rattle.bench.specs.Bench.{feeding, plain, turned, Turns}
 use Rattle.bench.proofs.Feeding.{feed-end, feed-stop, feed-plain, feed-turn, roomy}
 use Rattle.bench.proofs.Bench.feed.Statement.{statement}
 use Rattle.bench.proofs.Bench.feed.Tie as tie

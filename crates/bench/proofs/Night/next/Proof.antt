@@ -1,10 +1,10 @@
 -- `bench::Night::next` meets its contract. Assumes nothing.
 use borrow.Author.Needs.{needs}
-use mathlib.Core.Path.{_≡_, ap, _∙_}
+use mathlib.Core.Path.{ap, _∙_}
 use mathlib.Core.List.{List}
-use Prim.Native.Nat.{ℕ, _+_, _*_}
+use Prim.Native.Nat.{_+_, _*_}
 use native.Mathlib.Omega.{arith}
-use lib.ListN.{length, getD, drop}
+use lib.ListN.{getD, drop}
 use Rattle.frame.specs.declared.Message.{Message}
 use Rattle.post.proofs.Remaking.{length-mapped}
 use Rattle.bench.specs.Night.{seek, nextOf}

@@ -1,12 +1,11 @@
 -- `bench::Night::run` meets its contract, by cases. Assumes nothing.
 use borrow.Author.Needs.{needs}
-use Prim.Native.Nat.{ℕ}
 use lib.ListN.{length}
 use Rattle.post.proofs.Remaking.{length-mapped}
 use mathlib.Core.Path.{_≡_, ap, _∙_, sym, subst}
 use native.Mathlib.Omega.{arith}
 use Rattle.bench.specs.declared.calls.Called.{Called}
-use Rattle.bench.specs.Night.{opened, takes, givesBack, postOf, after, answered, offered, ran}
+use Rattle.bench.specs.Night.{opened, takes, givesBack, after, answered, ran}
 use Rattle.bench.specs.Inside.{Safe}
 use Rattle.bench.proofs.Nights.{within, none-next, one-next}
 use Rattle.bench.proofs.Night.run.Statement.{statement}

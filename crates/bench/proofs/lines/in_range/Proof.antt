@@ -1,11 +1,10 @@
 -- `bench::lines::in_range` meets its contract, by cases. Assumes nothing.
 use borrow.Author.Needs.{needs}
-use Prim.Native.Nat.{ℕ}
-use mathlib.Core.Path.{_≡_, ap, _∙_, sym}
-use mathlib.Core.Bool.{Bool, true, false, not, _&&_}
+use mathlib.Core.Path.{ap, _∙_, sym}
+use mathlib.Core.Bool.{not}
 use lib.Dec.{eqb}
 use borrow.Author.Tests.{not-true, not-false}
-use Rattle.laws.proofs.Ladders.{one-off, two-off, and-first, and-fails}
+use Rattle.laws.proofs.Ladders.{and-first, and-fails}
 use Rattle.bench.specs.Lines.{inside, inRange}
 use Rattle.bench.proofs.lines.in_range.Statement.{statement}
 use Rattle.bench.proofs.lines.in_range.Tie as tie

@@ -1,10 +1,9 @@
 -- `bench::lines::is_header` meets its contract: the text is put into a buffer of its own. Assumes nothing.
 use borrow.Author.Needs.{needs}
-use Prim.Native.Nat.{ℕ, _≤_}
-use mathlib.Core.Path.{_≡_, ap, _∙_, sym}
+use Prim.Native.Nat.{ℕ}
+use mathlib.Core.Path.{ap, _∙_, sym}
 use mathlib.Core.List.{List}
 use native.Mathlib.Omega.{arith}
-use lib.ListN.{length, take}
 use lib.Seq.{length-take-le}
 use Rattle.bench.specs.Search.{same}
 use Rattle.bench.specs.Lines.{kept, headerText}

@@ -1,15 +1,14 @@
 -- `bench::lines::is_text` meets its contract. Assumes nothing.
 use borrow.Author.Needs.{needs}
-use Prim.Native.Nat.{ℕ, _≤_}
+use Prim.Native.Nat.{ℕ}
 use mathlib.Core.Path.{_≡_, ap, _∙_, sym}
 use mathlib.Core.Bool.{Bool, true}
 use mathlib.Core.List.{List}
 use native.Mathlib.Omega.{arith}
 use denote.Floats.{passes}
 use denote.Ref.{now}
-use lib.Dec.{T}
 use lib.Ieee.Bits.{is-true}
-use lib.ListN.{length, take}
+use lib.ListN.{length}
 use lib.Seq.{length-take-le, take-all}
 use Rattle.laws.proofs.Tests.{same-test}
 use Rattle.bench.specs.Search.{same}

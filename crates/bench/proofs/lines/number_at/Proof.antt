@@ -1,7 +1,6 @@
 -- `bench::lines::number_at` meets its contract. Assumes nothing.
 use borrow.Author.Needs.{needs}
 use mathlib.Core.Path.{ap, _∙_}
-use native.Mathlib.Omega.{arith}
 use Rattle.bench.specs.Inside.{digit}
 use Rattle.bench.proofs.Digits.{number-two, number-one}
 use Rattle.bench.proofs.lines.number_at.Statement.{statement}

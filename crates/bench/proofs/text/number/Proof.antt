@@ -1,6 +1,5 @@
 -- `bench::text::number` meets its contract: by how many digits there are. Assumes nothing.
 use borrow.Author.Needs.{needs}
-use native.Mathlib.Omega.{arith}
 use Rattle.bench.proofs.Putting.{then, spelled, one-digit, two-digits, three-digits}
 use Rattle.bench.proofs.text.number.Statement.{statement}
 use Rattle.bench.proofs.text.number.Tie as tie

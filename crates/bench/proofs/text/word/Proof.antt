@@ -1,12 +1,11 @@
 -- `bench::text::word` meets its contract: after i turns the first i bytes are put. Assumes nothing.
 use borrow.Author.Needs.{needs}
 use Prim.Native.Nat.{ℕ, _+_, _-_, _≤_}
-use mathlib.Core.Path.{_≡_, refl, ap, _∙_}
+use mathlib.Core.Path.{_≡_, ap, _∙_}
 use mathlib.Core.List.{List}
 use native.Mathlib.Omega.{arith}
 use lib.ListN.{length, take, set, getD}
 use lib.Seq.{sets}
-use Rattle.bench.specs.Text.{Puts}
 use Rattle.bench.proofs.Putting.{put-more, put-all, put-long}
 use Rattle.bench.proofs.text.word.Statement.{statement}
 use Rattle.bench.proofs.text.word.Tie as tie
