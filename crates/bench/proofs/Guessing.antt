@@ -12,11 +12,11 @@ use Rattle.laws.proofs.ScanLaws.{all-at}
 use Rattle.bench.specs.declared.lines.Header.{Header}
 use Rattle.bench.specs.declared.lines.Command.{Command}
 use Rattle.bench.specs.declared.lines.Command.the-variants.{Take, Return, Deliver, Unknown}
-use Rattle.bench.specs.Search.{same, from, pairs}
+use Rattle.laws.specs.Search.{same, from, pairs}
 use Rattle.bench.specs.Text.{decimal, text}
 use Rattle.bench.specs.Lines.{inside, inRange, everyCommand, commandOf, heading, headerText, headerOf}
 use Rattle.bench.specs.Inside.{digit, numberAt, afterAt, guessCommand, guessHeader, headerFits, Safe}
-use Rattle.bench.proofs.SearchLaws.{in-map, in-pairs, in-from, fixed, first-has, is-guess, no-fit, no-text}
+use Rattle.laws.proofs.SearchLaws.{in-map, in-pairs, in-from, fixed, first-has, is-guess, no-fit, no-text}
 
 -- ---- commands
 

@@ -19,10 +19,10 @@ use Rattle.bench.specs.declared.Line.{Line}
 use Rattle.bench.specs.declared.lines.Command.{Command}
 use Rattle.bench.specs.declared.lines.Header.{Header}
 use Rattle.bench.specs.declared.lines.Command.the-variants.{Unknown}
-use Rattle.bench.specs.Search.{same, from, pairs}
+use Rattle.laws.specs.Search.{same, from, pairs}
 use Rattle.bench.specs.Text.{decimal, text}
 use Rattle.bench.specs.Lines.{empty, pushed, kept, inRange, everyCommand, commandOf, heading, headerText, headerOf}
-use Rattle.bench.proofs.SearchLaws.{same→eq, eq→same, first-cong}
+use Rattle.laws.proofs.SearchLaws.{same→eq, eq→same, first-cong}
 
 -- ---- the line that is kept of a piece
 

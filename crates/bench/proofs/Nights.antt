@@ -1,8 +1,8 @@
 -- Steps of the calls, from what the code's tests say. Assumes nothing.
-use mathlib.Core.Path.{_≡_, refl, ap, _∙_, sym}
+use mathlib.Core.Path.{_≡_, ap, _∙_, sym}
 use mathlib.Core.Bool.{true, false, not, cond, _&&_}
-use mathlib.Core.List.{List, [], _∷_}
-use Prim.Native.Nat.{ℕ, zero, suc, _+_, _≤_, _<_}
+use mathlib.Core.List.{List, []}
+use Prim.Native.Nat.{ℕ, _+_, _≤_, _<_}
 use native.Mathlib.Omega.{arith}
 use native.Mathlib.Nat.{min-le-left}
 use borrow.Author.Tests.{eq-eqb, ne-eqb, not-true, not-false, lt-ltb, le-ltb, le-leb, lt-leb}
@@ -11,6 +11,7 @@ use lib.ListN.{length, getD, set, take, length-take, drop-of-length-le}
 use lib.Seq.{slice, take-all}
 use Rattle.laws.proofs.Ladders.{on, off, one-off, two-off, both-on}
 use Rattle.laws.proofs.ScanLaws.{next}
+use Rattle.laws.proofs.StoreLaws.{within}
 use Rattle.frame.specs.declared.Message.{Message}
 use Rattle.frame.specs.Message.{blank}
 use Rattle.post.specs.declared.Post.{Post}
@@ -72,12 +73,6 @@ absent = record {
   phase = 0;
   order = 0;
 }
-
--- a place within a list has what it has, whatever stands for what is not there
-pub within : {A : Type 0} (l : List A) (i : ℕ) (d e : A) → i < length l → getD l i d ≡ getD l i e
-within [] i d e h = absurd (omega arith)
-within (x ∷ xs) zero d e h = refl
-within (x ∷ xs) (suc i) d e h = within xs i d e (omega arith)
 
 module _ (s : Night) (p q i : ℕ) (c : Called) (d : Post) (h : q < length (s .posts)) (e : c ≡ receives (getD (s .posts) q d) (getD (s .sent) i blank)) (n : Night) where
   received : c ≡ receives (postOf s q) (getD (s .sent) i blank)

@@ -15,7 +15,7 @@ use Rattle.bench.specs.declared.Bench.{Bench}
 use Rattle.bench.specs.declared.lines.Header.{Header}
 use Rattle.bench.specs.declared.lines.Command.{Command}
 use Rattle.bench.specs.declared.lines.Command.the-variants.{Unknown}
-use Rattle.bench.specs.Search.{first, same, from, pairs}
+use Rattle.laws.specs.Search.{first, same, from, pairs}
 use Rattle.bench.specs.Text.{decimal, answerLine, badHeader}
 use Rattle.bench.specs.Lines.{empty, headerOf, headerText, commandOf}
 use Rattle.bench.specs.Night.{begun, ran}

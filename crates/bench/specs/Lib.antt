@@ -1,5 +1,4 @@
 pub mod Text
-pub mod Search
 pub mod Lines
 pub mod Night
 pub mod Bench

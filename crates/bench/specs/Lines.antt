@@ -9,7 +9,7 @@ use Rattle.bench.specs.declared.Line.{Line}
 use Rattle.bench.specs.declared.lines.Header.{Header}
 use Rattle.bench.specs.declared.lines.Command.{Command}
 use Rattle.bench.specs.declared.lines.Command.the-variants.{Take, Return, Deliver, Unknown}
-use Rattle.bench.specs.Search.{first, same, from, pairs}
+use Rattle.laws.specs.Search.{first, same, from, pairs}
 use Rattle.bench.specs.Text.{decimal, text}
 
 -- ---- the line being read: its first 8 bytes

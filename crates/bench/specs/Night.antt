@@ -15,7 +15,7 @@ use Rattle.bench.specs.declared.calls.Called.{Called}
 use Rattle.bench.specs.declared.calls.Ran.{Ran}
 use Rattle.bench.specs.declared.lines.Command.{Command}
 use Rattle.bench.specs.declared.lines.Command.the-variants.{Take, Return, Deliver, Unknown}
-use Rattle.bench.specs.Search.{from}
+use Rattle.laws.specs.Search.{from}
 
 -- ---- calls on one post
 

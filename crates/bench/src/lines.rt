@@ -7,7 +7,7 @@ ghost use Prim.Native.Nat.{_≤_, _<_};
 ghost use lib.Dec.{leb};
 ghost use lib.ListN.{getD};
 ghost use Rattle.bench.specs.Text.{text};
-ghost use Rattle.bench.specs.Search.{same};
+ghost use Rattle.laws.specs.Search.{same};
 ghost use Rattle.bench.specs.Lines.{empty, pushed, kept, inside, inRange, commandOf, heading, headerText, headerOf};
 ghost use Rattle.bench.specs.Inside.{digit, numberAt, afterAt, guessHeader, guessCommand, headerFits};
 

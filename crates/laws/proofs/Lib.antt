@@ -15,3 +15,4 @@ pub mod ShiftLaws
 pub mod Counting
 pub mod SumBounds
 pub mod StoreLaws
+pub mod SearchLaws

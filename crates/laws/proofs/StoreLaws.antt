@@ -1,9 +1,9 @@
--- Runs of stores: two that follow each other are one, and what stands in a list after one. Assumes nothing.
+-- Runs of stores: two that follow each other are one, and what stands in a list after one; a place within a list. Assumes nothing.
 use mathlib.Core.Path.{_≡_, refl, ap, _∙_}
 use mathlib.Core.List.{List, [], _∷_, _++_}
-use Prim.Native.Nat.{ℕ, suc, _+_, _≤_}
+use Prim.Native.Nat.{ℕ, zero, suc, _+_, _≤_, _<_}
 use native.Mathlib.Omega.{arith}
-use lib.ListN.{length, take, drop, set, length-append}
+use lib.ListN.{length, getD, take, drop, set, length-append}
 use lib.Seq.{sets, sets-eq, take-at, length-take-le}
 
 module _ {A : Type 0} where
@@ -19,3 +19,9 @@ module _ {A : Type 0} where
       let k = length-take-le i l (omega arith) in
       let e = length-append (take i l) s in
       ap (take (i + length s)) (sets-eq s l i h) ∙ take-at (take i l ++ s) (drop (i + length s) l) (i + length s) (omega arith)
+
+-- a place within a list has what it has, whatever stands for what is not there
+pub within : {A : Type 0} (l : List A) (i : ℕ) (d e : A) → i < length l → getD l i d ≡ getD l i e
+within [] i d e h = absurd (omega arith)
+within (x ∷ xs) zero d e h = refl
+within (x ∷ xs) (suc i) d e h = within xs i d e (omega arith)

@@ -2,3 +2,4 @@ pub mod Ladder
 pub mod Big
 pub mod Lists
 pub mod Below
+pub mod Search

@@ -4,10 +4,11 @@ use lib.ListN.{length}
 use Rattle.post.proofs.Remaking.{length-mapped}
 use mathlib.Core.Path.{_≡_, ap, _∙_, sym, subst}
 use native.Mathlib.Omega.{arith}
+use Rattle.laws.proofs.StoreLaws.{within}
 use Rattle.bench.specs.declared.calls.Called.{Called}
 use Rattle.bench.specs.Night.{opened, takes, givesBack, after, answered, ran}
 use Rattle.bench.specs.Inside.{Safe}
-use Rattle.bench.proofs.Nights.{within, none-next, one-next}
+use Rattle.bench.proofs.Nights.{none-next, one-next}
 use Rattle.bench.proofs.Night.run.Statement.{statement}
 use Rattle.bench.proofs.Night.run.Tie as tie
 

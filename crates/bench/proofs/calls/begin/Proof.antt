@@ -6,9 +6,9 @@ use mathlib.Core.List.{map}
 use native.Mathlib.Omega.{arith}
 use lib.ListN.{length, take, replicate, length-set}
 use Rattle.frame.specs.Message.{blank}
-use Rattle.bench.specs.Search.{from}
+use Rattle.laws.specs.Search.{from}
 use Rattle.bench.specs.Night.{opened, begun}
-use Rattle.bench.proofs.SearchLaws.{fill-one, fill-all}
+use Rattle.laws.proofs.SearchLaws.{fill-one, fill-all}
 use Rattle.bench.proofs.calls.begin.Statement.{statement}
 use Rattle.bench.proofs.calls.begin.Tie as tie
 

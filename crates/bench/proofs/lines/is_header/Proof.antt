@@ -5,7 +5,7 @@ use mathlib.Core.Path.{ap, _∙_, sym}
 use mathlib.Core.List.{List}
 use native.Mathlib.Omega.{arith}
 use lib.Seq.{length-take-le}
-use Rattle.bench.specs.Search.{same}
+use Rattle.laws.specs.Search.{same}
 use Rattle.bench.specs.Lines.{kept, headerText}
 use Rattle.bench.proofs.Putting.{put-first, pair-few}
 use Rattle.bench.proofs.lines.is_header.Statement.{statement}

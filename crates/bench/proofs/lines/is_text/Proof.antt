@@ -11,9 +11,9 @@ use lib.Ieee.Bits.{is-true}
 use lib.ListN.{length}
 use lib.Seq.{length-take-le, take-all}
 use Rattle.laws.proofs.Tests.{same-test}
-use Rattle.bench.specs.Search.{same}
+use Rattle.laws.specs.Search.{same}
 use Rattle.bench.specs.Lines.{kept}
-use Rattle.bench.proofs.SearchLaws.{same→eq, eq→same}
+use Rattle.laws.proofs.SearchLaws.{same→eq, eq→same}
 use Rattle.bench.proofs.lines.is_text.Statement.{statement}
 use Rattle.bench.proofs.lines.is_text.Tie as tie
 

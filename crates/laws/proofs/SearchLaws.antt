@@ -12,10 +12,10 @@ use lib.Dec.{T, T-not, eqb, eqb→eq, eqb-refl}
 use lib.ListN.{length, take, set}
 use lib.Seq.{take-suc-set, take-all}
 use lib.Ieee.Bits.{is-true, is-false}
 use Rattle.laws.specs.Lists.{In}
 use Rattle.laws.proofs.Tests.{test, cond-both, and-l, and-r}
 use Rattle.laws.proofs.ListLaws.{in-left, in-right}
-use Rattle.bench.specs.Search.{first, same, from, pairs}
+use Rattle.laws.specs.Search.{first, same, from, pairs}
 
 pub same→eq : (s t : List ℕ) → T (same s t) → s ≡ t
 unfolding same
