@@ -20,7 +20,7 @@ use Rattle.queue.proofs.Granted.{in-takes}
 use Rattle.queue.proofs.Phases.{phase-idle, order-idle, phase-asked, order-asked, phase-numbered, order-numbered, number-some}
 use Rattle.queue.proofs.Settling.{Between, waits-on, count-after, number-after}
 use Rattle.post.specs.declared.Post.{Post}
-use Rattle.post.specs.Record.{waitingOf, floor, inSlots, remade}
+use Rattle.post.specs.Record.{waitingOf, floor, inSlots, made, remade}
 use Rattle.post.specs.Settle.{upTo, ownNumber, orderAfter, phaseAfter, settle}
 use Rattle.post.proofs.Settled.{under, leftOf, upTo-keep, left-keep}
 use Rattle.post.proofs.OwnMessages.{ownNumber-none}
@@ -147,20 +147,10 @@ module _ (st : Start) (q q′ : Queue) (v : List Message) (b : Between st q q′
 
     pub settles-to-image : Stand st q q′ v ph o → settle before ≡ image st q′
     unfolding settle orderAfter remade image room
-    settles-to-image s = λ i. record {
-      posts = st .posts;
-      own = st .own;
-      feeder = st .feeder;
-      places = st .places;
-      clock = clock q′;
-      last = listFrom 0 16 (λ r. last r q′);
-      waits = length (left-is i);
-      slots = inSlots (left-is i);
-      takes = count-is isTake i;
-      returns = count-is isReturn i;
-      phase = phase-is i;
-      order = order-is i;
-    }
+    settles-to-image s =
+        λ i.
+        made (st .posts) (st .own) (st .feeder) (st .places) (clock q′) (listFrom 0 16 (λ r. last r q′)) (length (left-is i)) (inSlots (left-is i))
+        (count-is isTake i) (count-is isReturn i) (phase-is i) (order-is i)
       where
         order-is : orderAfter before counts ≡ order st q′
         order-is = ap (λ (l : List Message). cond (eqb ph 1) (ownNumber (st .own) (many isTake (settled st q)) l) o) gone-is ∙ order-after ph o s

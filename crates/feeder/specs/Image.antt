@@ -6,7 +6,7 @@ use Rattle.laws.specs.Lists.{many}
 use Rattle.frame.specs.Message.{isTake, isReturn}
 use Rattle.queue.specs.Queue.{Start, Queue, clock, last, settled, waiting, phase, order}
 use Rattle.post.specs.declared.Post.{Post}
-use Rattle.post.specs.Record.{inSlots}
+use Rattle.post.specs.Record.{inSlots, made}
 
 -- f i, f (i + 1), .. : n of them
 unfoldable pub listFrom : ℕ → ℕ → (ℕ → ℕ) → List ℕ
@@ -14,17 +14,6 @@ listFrom i zero f = []
 listFrom i (suc n) f = f i ∷ listFrom (suc i) n f
 
 unfoldable pub image : Start → Queue → Post
-image st q = record {
-  posts = st .posts;
-  own = st .own;
-  feeder = st .feeder;
-  places = st .places;
-  clock = clock q;
-  last = listFrom 0 16 (λ r. last r q);
-  waits = length (waiting st q);
-  slots = inSlots (waiting st q);
-  takes = many isTake (settled st q);
-  returns = many isReturn (settled st q);
-  phase = phase st q;
-  order = order st q;
-}
+image st q =
+    made (st .posts) (st .own) (st .feeder) (st .places) (clock q) (listFrom 0 16 (λ r. last r q)) (length (waiting st q)) (inSlots (waiting st q))
+    (many isTake (settled st q)) (many isReturn (settled st q)) (phase st q) (order st q)

@@ -1,3 +1,4 @@
+pub mod Words
 pub mod Ladder
 pub mod Big
 pub mod Lists

@@ -14,7 +14,7 @@ use Rattle.frame.specs.declared.Message.{Message}
 use Rattle.frame.specs.Message.{blank, isTake, isReturn, stampOf, stamp}
 use Rattle.post.specs.declared.Post.{Post}
 use Rattle.post.specs.declared.slots.Gone.{Gone}
-use Rattle.post.specs.Record.{waitingOf, leastTo, floor, inSlots, remade}
+use Rattle.post.specs.Record.{waitingOf, leastTo, floor, inSlots, made, remade}
 use Rattle.post.specs.Settle.{upTo, ownNumber, orderAfter, phaseAfter, settle}
 use Rattle.post.specs.Inside.{Left}
 use Rattle.post.proofs.SoundFacts.{Sound, sound-has}
@@ -50,75 +50,23 @@ module _ (p : Post) (k : Kept p) where
   -- one message more
   pub with-message : (clock : ℕ) (last : List ℕ) (m : Message) (slots : List Message) (phase order : ℕ)
       → slots ≡ put stamp m (waitingOf p) ++ drop (p .waits + 1) (p .slots)
-      → record {
-        posts = p .posts;
-        own = p .own;
-        feeder = p .feeder;
-        places = p .places;
-        clock = clock;
-        last = last;
-        waits = p .waits + 1;
-        slots = slots;
-        takes = p .takes;
-        returns = p .returns;
-        phase = phase;
-        order = order;
-      } ≡ remade p clock last (put stamp m (waitingOf p)) phase order
+      → made (p .posts) (p .own) (p .feeder) (p .places) clock last (p .waits + 1) slots (p .takes) (p .returns) phase order ≡ remade p clock last (put stamp m (waitingOf p)) phase order
   unfolding remade
   with-message clock last m slots phase order e =
       let ms = put stamp m (waitingOf p) in
       let n : p .waits + 1 ≡ length ms = (let a = length-put stamp m (waitingOf p) in let b = waits-is in omega arith) in
       let f : slots ≡ inSlots ms = e ∙ ap (λ (x : List Message). ms ++ x) (unused (p .waits + 1) (omega arith) ∙ ap (λ (x : ℕ). replicate (62 - x) blank) n) in
-      λ i. record {
-        posts = p .posts;
-        own = p .own;
-        feeder = p .feeder;
-        places = p .places;
-        clock = clock;
-        last = last;
-        waits = n i;
-        slots = f i;
-        takes = p .takes;
-        returns = p .returns;
-        phase = phase;
-        order = order;
-      }
+      ap₂ (λ (w : ℕ) (x : List Message). made (p .posts) (p .own) (p .feeder) (p .places) clock last w x (p .takes) (p .returns) phase order) n f
 
   -- the same messages
   pub without-message : (clock : ℕ) (last : List ℕ)
-      → record {
-        posts = p .posts;
-        own = p .own;
-        feeder = p .feeder;
-        places = p .places;
-        clock = clock;
-        last = last;
-        waits = p .waits;
-        slots = p .slots;
-        takes = p .takes;
-        returns = p .returns;
-        phase = p .phase;
-        order = p .order;
-      } ≡ remade p clock last (waitingOf p) (p .phase) (p .order)
+      → made (p .posts) (p .own) (p .feeder) (p .places) clock last (p .waits) (p .slots) (p .takes) (p .returns) (p .phase) (p .order) ≡ remade p clock last (waitingOf p) (p .phase) (p .order)
   unfolding remade
   without-message clock last =
       let n : p .waits ≡ length (waitingOf p) = sym waits-is in
       let f : p .slots ≡ inSlots (waitingOf p) =
       sym (take-append-drop (p .waits) (p .slots)) ∙ ap (λ (x : List Message). waitingOf p ++ x) (unused (p .waits) (omega arith) ∙ ap (λ (x : ℕ). replicate (62 - x) blank) n) in
-      λ i. record {
-        posts = p .posts;
-        own = p .own;
-        feeder = p .feeder;
-        places = p .places;
-        clock = clock;
-        last = last;
-        waits = n i;
-        slots = f i;
-        takes = p .takes;
-        returns = p .returns;
-        phase = p .phase;
-        order = p .order;
-      }
+      ap₂ (λ (w : ℕ) (x : List Message). made (p .posts) (p .own) (p .feeder) (p .places) clock last w x (p .takes) (p .returns) (p .phase) (p .order)) n f
 
   pub has-room : p .waits < 62
   has-room = let h = most p (k .shape) (k .width) (k .sound) in omega arith
@@ -130,20 +78,7 @@ pub settles-as : (p : Post) (f : ℕ) (gone : Gone) (slots : List Message) (phas
     → slots ≡ inSlots (drop (gone .count) (waitingOf p))
     → order ≡ cond (eqb (p .phase) 1) (gone .order) (p .order)
     → phase ≡ phaseAfter (p .phase) order (p .places + (p .returns + gone .returns))
-    → record {
-      posts = p .posts;
-      own = p .own;
-      feeder = p .feeder;
-      places = p .places;
-      clock = p .clock;
-      last = p .last;
-      waits = p .waits - gone .count;
-      slots = slots;
-      takes = gone .takes;
-      returns = p .returns + gone .returns;
-      phase = phase;
-      order = order;
-    } ≡ settle p
+    → made (p .posts) (p .own) (p .feeder) (p .places) (p .clock) (p .last) (p .waits - gone .count) slots (gone .takes) (p .returns + gone .returns) phase order ≡ settle p
 unfolding settle floor orderAfter
 settles-as p f gone slots phase order len pf g ps po pp =
     let ws = waitingOf p in
@@ -153,17 +88,5 @@ settles-as p f gone slots phase order len pf g ps po pp =
     let rt : p .returns + gone .returns ≡ p .returns + many isReturn (upTo (floor p) ws) = ap (λ (x : ℕ). p .returns + x) (g .returns ∙ ap (many isReturn) out) in
     let o : order ≡ cond (eqb (p .phase) 1) (ownNumber (p .own) (p .takes) (upTo (floor p) ws)) (p .order) =
     po ∙ ap (λ (x : ℕ). cond (eqb (p .phase) 1) x (p .order)) (g .order ∙ ap (ownNumber (p .own) (p .takes)) out) in
-    λ i. record {
-      posts = p .posts;
-      own = p .own;
-      feeder = p .feeder;
-      places = p .places;
-      clock = p .clock;
-      last = p .last;
-      waits = left i;
-      slots = (ps ∙ ap (λ (x : ℕ). inSlots (drop x ws)) k) i;
-      takes = (g .takes ∙ ap (λ (l : List Message). p .takes + many isTake l) out) i;
-      returns = rt i;
-      phase = (pp ∙ ap₂ (λ (x y : ℕ). phaseAfter (p .phase) x (p .places + y)) o rt) i;
-      order = o i;
-    }
+    λ i. made (p .posts) (p .own) (p .feeder) (p .places) (p .clock) (p .last) (left i) ((ps ∙ ap (λ (x : ℕ). inSlots (drop x ws)) k) i)
+    ((g .takes ∙ ap (λ (l : List Message). p .takes + many isTake l) out) i) (rt i) ((pp ∙ ap₂ (λ (x y : ℕ). phaseAfter (p .phase) x (p .places + y)) o rt) i) (o i)

@@ -29,36 +29,28 @@ floor p = leastTo (p .posts) (p .own) (λ q. stampOf (lastOf p q) q)
 abbrev pub inSlots : List Message → List Message
 inSlots ms = ms ++ replicate (62 - length ms) blank
 
--- a record as it starts
-unfoldable pub fresh : ℕ → ℕ → ℕ → ℕ → Post
-fresh posts own feeder places = record {
+-- a record by its fields
+abbrev pub made : ℕ → ℕ → ℕ → ℕ → ℕ → List ℕ → ℕ → List Message → ℕ → ℕ → ℕ → ℕ → Post
+made posts own feeder places clock last waits slots takes returns phase order = record {
   posts = posts;
   own = own;
   feeder = feeder;
   places = places;
-  clock = 0;
-  last = replicate 16 0;
-  waits = 0;
-  slots = replicate 62 blank;
-  takes = 0;
-  returns = 0;
-  phase = 0;
-  order = 0;
-}
-
--- the record with this clock, these last counters, these messages waiting, this phase and this order number
-unfoldable pub remade : Post → ℕ → List ℕ → List Message → ℕ → ℕ → Post
-remade p clock last ms phase order = record {
-  posts = p .posts;
-  own = p .own;
-  feeder = p .feeder;
-  places = p .places;
   clock = clock;
   last = last;
-  waits = length ms;
-  slots = inSlots ms;
-  takes = p .takes;
-  returns = p .returns;
+  waits = waits;
+  slots = slots;
+  takes = takes;
+  returns = returns;
   phase = phase;
   order = order;
 }
+
+-- a record as it starts
+unfoldable pub fresh : ℕ → ℕ → ℕ → ℕ → Post
+fresh posts own feeder places = made posts own feeder places 0 (replicate 16 0) 0 (replicate 62 blank) 0 0 0 0
+
+-- the record with this clock, these last counters, these messages waiting, this phase and this order number
+unfoldable pub remade : Post → ℕ → List ℕ → List Message → ℕ → ℕ → Post
+remade p clock last ms phase order =
+    made (p .posts) (p .own) (p .feeder) (p .places) clock last (length ms) (inSlots ms) (p .takes) (p .returns) phase order

@@ -8,7 +8,7 @@ use Rattle.laws.specs.Lists.{many}
 use Rattle.frame.specs.declared.Message.{Message}
 use Rattle.frame.specs.Message.{isTake, isReturn, stamp, by}
 use Rattle.post.specs.declared.Post.{Post}
-use Rattle.post.specs.Record.{waitingOf, floor, inSlots}
+use Rattle.post.specs.Record.{waitingOf, floor, inSlots, made}
 
 -- the messages before the first whose stamp is above t
 unfoldable pub upTo : ℕ → List Message → List Message
@@ -36,17 +36,5 @@ settle p =
     let left = drop (length gone) (waitingOf p) in
     let returns = p .returns + many isReturn gone in
     let order = orderAfter p gone in
-    record {
-      posts = p .posts;
-      own = p .own;
-      feeder = p .feeder;
-      places = p .places;
-      clock = p .clock;
-      last = p .last;
-      waits = length left;
-      slots = inSlots left;
-      takes = p .takes + many isTake gone;
-      returns = returns;
-      phase = phaseAfter (p .phase) order (p .places + returns);
-      order = order;
-    }
+    made (p .posts) (p .own) (p .feeder) (p .places) (p .clock) (p .last) (length left) (inSlots left)
+    (p .takes + many isTake gone) returns (phaseAfter (p .phase) order (p .places + returns)) order
