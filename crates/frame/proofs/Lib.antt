@@ -3,3 +3,4 @@ pub mod Frames
 pub mod Stamps
 pub mod Unique
 pub mod FrameFields
+pub mod Passing

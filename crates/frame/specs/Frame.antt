@@ -24,6 +24,10 @@ widths = 3 ∷ 2 ∷ 1 ∷ 1 ∷ 1 ∷ 4 ∷ []
 unfoldable pub frame : ℕ → Message → List ℕ
 frame feeder m = fieldBytes widths (mark ∷ 1 ∷ feeder ∷ m .kind ∷ m .sender ∷ m .counter ∷ [])
 
+-- a frame over the first 12 bytes; later bytes stay
+abbrev pub over : ℕ → Message → List ℕ → List ℕ
+over feeder m old = frame feeder m ++ drop 12 old
+
 abbrev pub fieldsFrom : List ℕ → Fields
 fieldsFrom v =
     record { mark = getD v 0 0; version = getD v 1 0; feeder = getD v 2 0; message = msg (getD v 3 0) (getD v 4 0) (getD v 5 0) }
@@ -63,7 +67,7 @@ writeNo old m = refusal (writeRows (length old) m)
 
 -- the bytes after writing over old: the first 12 are the frame, and a refusal leaves all
 unfoldable pub bytesAfter : List ℕ → ℕ → Message → List ℕ
-bytesAfter old feeder m = cond (eqb (writeNo old m) 0) (frame feeder m ++ drop 12 old) old
+bytesAfter old feeder m = cond (eqb (writeNo old m) 0) (over feeder m old) old
 
 -- what writing gives and leaves
 pub record Written (old new : List ℕ) (feeder : ℕ) (m : Message) (number : ℕ) : Type 0 where

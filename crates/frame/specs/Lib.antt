@@ -1,2 +1,3 @@
 pub mod Message
 pub mod Frame
+pub mod Table

@@ -1,5 +1,5 @@
 -- What the calls give back, from what their parts give. Assumes nothing.
-use mathlib.Core.Path.{_≡_, refl, ap, _∙_, sym}
+use mathlib.Core.Path.{_≡_, refl, ap, _∙_, sym, subst}
 use mathlib.Core.Bool.{Bool, true, false, not, _&&_}
 use mathlib.Core.List.{List, _++_}
 use Prim.Native.Nat.{ℕ, _+_, _-_, _≤_}
@@ -15,12 +15,12 @@ use Rattle.laws.proofs.Ladders.{on, off, not-off, unrefused}
 use Rattle.laws.proofs.CountLaws.{length-put}
 use Rattle.frame.specs.declared.Message.{Message}
 use Rattle.frame.specs.Message.{blank, msg, known, counted, stamp}
-use Rattle.frame.specs.Frame.{frame, messageRows, writeRows, writeNo, bytesAfter, Written}
+use Rattle.frame.specs.Frame.{over, messageRows, writeRows, writeNo, bytesAfter, Written}
 use Rattle.post.specs.declared.Post.{Post}
 use Rattle.post.specs.declared.Answer.{Answer}
 use Rattle.post.specs.Record.{waitingOf, remade}
 use Rattle.post.specs.Settle.{settle}
-use Rattle.post.specs.Calls.{spoken, came, noted, ackClock, done, refused, over, Gives, sent, sentBytes, heardFrom, heardBytes, answer}
+use Rattle.post.specs.Calls.{spoken, came, noted, Outcome, Gives, answer, refused, unless, acknowledged, heardFrom}
 use Rattle.post.specs.Inside.{Countable}
 use Rattle.post.proofs.SoundFacts.{sound-has}
 use Rattle.post.proofs.Shape.{Kept, length-waiting}
@@ -68,7 +68,7 @@ module _ (p : Post) (k : Kept p) where
 
 -- a good message is written where there is room
 pub is-written : (old new : List ℕ) (f : ℕ) (m : Message) (n : ℕ) → Written old new f m n → T (known (m .kind)) → m .sender ≤ 15 → 1 ≤ m .counter → 12 ≤ length old
-    → new ≡ frame f m ++ drop 12 old
+    → new ≡ over f m old
 unfolding bytesAfter writeRows messageRows
 is-written old new f m n w kind sender counter room =
     w .leaves
@@ -78,38 +78,27 @@ is-written old new f m n w kind sender counter room =
 
 -- ---- the answers
 
-module _ (p : Post) (rows : List Row) {n : ℕ} (e : n ≡ refusal rows) where
-  module _ (kind phase : ℕ) (lent : List ℕ) where
-    pub not-sent : (n ≡ 0 → ⊥) → {r : Answer} → r ≡ refused p n → Gives (sent p kind phase rows) (sentBytes p kind rows lent) r lent
-    unfolding sent sentBytes
-    not-sent z h =
-        let f = ne-eqb (refusal rows) 0 (λ q. z (e ∙ q)) in
-        record { gives = off _ _ _ f (h ∙ ap (refused p) e); leaves = off _ _ _ f refl }
+-- an outcome by its name
+among : {o o′ : Outcome} → o ≡ o′ → {r : Answer} {new : List ℕ} → Gives o r new → Gives o′ r new
+among e {r} {new} = subst (λ (x : Outcome). Gives x r new) e
 
-    pub is-sent : n ≡ 0 → {r : Answer} {new : List ℕ}
-        → Gives (done p (settle (spoken p kind phase)) true) (over p (msg kind (p .own) (p .clock + 1)) lent) r new → Gives (sent p kind phase rows) (sentBytes p kind rows lent) r new
-    unfolding sent sentBytes
-    is-sent z g = let f = eq-eqb (refusal rows) 0 (sym e ∙ z) in record { gives = on _ _ _ f (g .gives); leaves = on _ _ _ f (g .leaves) }
+module _ (p : Post) (rows : List Row) {n : ℕ} (e : n ≡ refusal rows) (lent : List ℕ) (o : Outcome) where
+  pub not-done : (n ≡ 0 → ⊥) → {r : Answer} → r ≡ refused p n → Gives (unless p lent rows o) r lent
+  unfolding unless
+  not-done z h = let f = ne-eqb (refusal rows) 0 (λ q. z (e ∙ q)) in among (off _ _ _ f refl) (record { gives = h ∙ ap (refused p) e; leaves = refl })
 
-  module _ (m : Message) (lent : List ℕ) where
-    pub not-heard : (n ≡ 0 → ⊥) → {r : Answer} → r ≡ refused p n → Gives (heardFrom p m rows) (heardBytes p m rows lent) r lent
-    unfolding heardFrom heardBytes
-    not-heard z h =
-        let f = ne-eqb (refusal rows) 0 (λ q. z (e ∙ q)) in
-        record { gives = off _ _ _ f (h ∙ ap (refused p) e); leaves = off _ _ _ f refl }
+  pub is-done : n ≡ 0 → {r : Answer} {new : List ℕ} → Gives o r new → Gives (unless p lent rows o) r new
+  unfolding unless
+  is-done z = among (on _ _ _ (eq-eqb (refusal rows) 0 (sym e ∙ z)) refl)
 
-    pub is-heard : n ≡ 0 → counted m ≡ true → {r : Answer} {new : List ℕ}
-        → Gives (done p (settle (came p m)) true) (over p (msg 3 (p .own) (ackClock p m)) lent) r new → Gives (heardFrom p m rows) (heardBytes p m rows lent) r new
-    unfolding heardFrom heardBytes
-    is-heard z y g =
-        let f = eq-eqb (refusal rows) 0 (sym e ∙ z) in
-        record { gives = on _ _ _ f (on _ _ _ y (g .gives)); leaves = on _ _ _ f (on _ _ _ y (g .leaves)) }
+module _ (p : Post) (m : Message) (lent : List ℕ) where
+  pub is-heard : counted m ≡ true → {r : Answer} {new : List ℕ} → Gives (acknowledged p m lent) r new → Gives (heardFrom p m lent) r new
+  unfolding heardFrom
+  is-heard y = among (on _ _ _ y refl)
 
-    pub is-noted : n ≡ 0 → counted m ≡ false → {r : Answer} → r ≡ done p (settle (noted p m)) false → Gives (heardFrom p m rows) (heardBytes p m rows lent) r lent
-    unfolding heardFrom heardBytes
-    is-noted z y h =
-        let f = eq-eqb (refusal rows) 0 (sym e ∙ z) in
-        record { gives = on _ _ _ f (off _ _ _ y h); leaves = on _ _ _ f (off _ _ _ y refl) }
+  pub is-noted : counted m ≡ false → {r : Answer} → r ≡ answer (p .phase) (settle (noted p m)) false → Gives (heardFrom p m lent) r lent
+  unfolding heardFrom
+  is-noted y h = among (off _ _ _ y refl) (record { gives = h; leaves = refl })
 
 -- the answer, from the next record and the grant mark
 pub is-answer : (before : ℕ) (q next : Post) (wrote g : Bool) → next ≡ q → g ≡ (not (eqb before 3) && eqb (next .phase) 3)

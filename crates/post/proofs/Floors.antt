@@ -17,7 +17,7 @@ use Rattle.post.specs.declared.Post.{Post}
 use Rattle.post.specs.declared.Answer.{Answer}
 use Rattle.post.specs.Record.{lastOf, leastTo, floor, remade}
 use Rattle.post.specs.Settle.{settle}
-use Rattle.post.specs.Calls.{spoken, ackClock, came, noted, takeRows, returnRows, receiveRows, sent, took, gaveBack, heardFrom, received}
+use Rattle.post.specs.Calls.{spoken, ackClock, came, noted, takeRows, returnRows, receiveRows, Outcome, unless, said, took, gaveBack, heardFrom, received}
 use Rattle.post.proofs.Accepted.{accepted}
 
 -- ---- the least over the posts below n but own
@@ -92,27 +92,27 @@ floor-up p clock last ms phase order h =
     least-mono (p .posts) (p .own) (λ q. stampOf (lastOf p q) q) (λ q. stampOf (getD last q 0) q) (λ q l d. let a = h q l d in omega arith)
 
 -- whether it is refused or not
-sent-floor : (p : Post) (kind phase : ℕ) (rows : List Row) → floor p ≤ floor (sent p kind phase rows .post)
-unfolding sent spoken
-sent-floor p kind phase rows =
-    cond-both (λ (a : Answer). floor p ≤ floor (a .post)) (eqb (refusal rows) 0) _ _
+said-floor : (p : Post) (kind phase : ℕ) (rows : List Row) (lent : List ℕ) → floor p ≤ floor (unless p lent rows (said p kind phase lent) .gives .post)
+unfolding unless spoken
+said-floor p kind phase rows lent =
+    cond-both (λ (o : Outcome). floor p ≤ floor (o .gives .post)) (eqb (refusal rows) 0) _ _
     (λ y. floor-up p _ _ _ _ _ (λ q l d. let e = getD-set-other (p .last) (p .own) q (p .clock + 1) 0 d in omega arith))
     (λ n. omega arith)
 
-pub took-floor : (p : Post) (lent : List ℕ) → floor p ≤ floor (took p lent .post)
-took-floor p lent = sent-floor p 1 1 (takeRows p (length lent))
+pub took-floor : (p : Post) (lent : List ℕ) → floor p ≤ floor (took p lent .gives .post)
+took-floor p lent = said-floor p 1 1 (takeRows p (length lent)) lent
 
-pub gaveBack-floor : (p : Post) (lent : List ℕ) → floor p ≤ floor (gaveBack p lent .post)
-gaveBack-floor p lent = sent-floor p 2 0 (returnRows p (length lent))
+pub gaveBack-floor : (p : Post) (lent : List ℕ) → floor p ≤ floor (gaveBack p lent .gives .post)
+gaveBack-floor p lent = said-floor p 2 0 (returnRows p (length lent)) lent
 
-pub received-floor : (p : Post) (s lent : List ℕ) → floor p ≤ floor (received p s lent .post)
-unfolding heardFrom came noted
+pub received-floor : (p : Post) (s lent : List ℕ) → floor p ≤ floor (received p s lent .gives .post)
+unfolding unless heardFrom came noted
 received-floor p s lent =
-    cond-both (λ (a : Answer). floor p ≤ floor (a .post)) (eqb (refusal (receiveRows p s (length lent))) 0) _ _
+    cond-both (λ (o : Outcome). floor p ≤ floor (o .gives .post)) (eqb (refusal (receiveRows p s (length lent))) 0) _ _
     (λ y. let m = fieldsOf s .message in
-    let a = accepted p s (length lent) (eqb→eq (refusal (receiveRows p s (length lent))) 0 y) .new in
+    let a = accepted p s (length lent) (eqb→eq (refusal (receiveRows p s (length lent))) 0 y) .1 .new in
     let up : (q : ℕ) → lastOf p q ≤ getD (set (p .last) (m .sender) (m .counter)) q 0 = set-up (p .last) (m .sender) (m .counter) (omega arith) in
-    cond-both (λ (a : Answer). floor p ≤ floor (a .post)) (counted m) _ _
+    cond-both (λ (o : Outcome). floor p ≤ floor (o .gives .post)) (counted m) _ _
     (λ c. floor-up p _ _ _ _ _ (λ q l d.
     let e = getD-set-other (set (p .last) (m .sender) (m .counter)) (p .own) q (ackClock p m) 0 d in
     let b = up q in

@@ -20,11 +20,12 @@ use Rattle.laws.proofs.SumLaws.{sumTo-point, sumTo-most}
 use Rattle.frame.specs.declared.Message.{Message}
 use Rattle.frame.specs.Message.{stampOf, isTake, isReturn, counted, by}
 use Rattle.frame.specs.Frame.{fieldsOf, formRows}
+use Rattle.frame.specs.Table.{senderTests, turnTests, receiveTests}
 use Rattle.post.specs.declared.Post.{Post}
 use Rattle.post.specs.declared.Answer.{Answer}
 use Rattle.post.specs.Record.{lastOf, waitingOf, leastTo, floor}
 use Rattle.post.specs.Sound.{sound}
-use Rattle.post.specs.Calls.{senderRows, turnRows, receiveRows, heardFrom, received}
+use Rattle.post.specs.Calls.{receiveRows, Outcome, unless, heardFrom, received}
 use Rattle.post.proofs.SoundFacts.{Sound, sound-has}
 use Rattle.post.proofs.Shape.{Shape, Width, length-waiting, last-width}
 use Rattle.post.proofs.Floors.{least-of, least-le}
@@ -66,14 +67,14 @@ module _ (p : Post) (s : Sound p) where
       omega arith)
 
   -- so it never meets 12
-  pub lowest-never-12 : (t lent : List ℕ) → stampOf (lastOf p (fieldsOf t .message .sender)) (fieldsOf t .message .sender) ≡ floor p → received p t lent .number ≡ 12 → ⊥
-  unfolding heardFrom receiveRows formRows senderRows turnRows all
+  pub lowest-never-12 : (t lent : List ℕ) → stampOf (lastOf p (fieldsOf t .message .sender)) (fieldsOf t .message .sender) ≡ floor p → received p t lent .gives .number ≡ 12 → ⊥
+  unfolding unless heardFrom receiveRows receiveTests formRows senderTests turnTests all
   lowest-never-12 t lent e =
       let m = fieldsOf t .message in
       let z = lowest-none (m .sender) e in
       let h = lt-leb 4 (many (by (m .sender)) (waitingOf p)) (omega arith) in
-      cond-both (λ (r : Answer). r .number ≡ 12 → ⊥) (eqb (refusal (receiveRows p t (length lent))) 0) _ _
-      (λ y. cond-both (λ (r : Answer). r .number ≡ 12 → ⊥) (counted m) _ _ (λ c x. omega arith) (λ c x. omega arith))
+      cond-both (λ (o : Outcome). o .gives .number ≡ 12 → ⊥) (eqb (refusal (receiveRows p t (length lent))) 0) _ _
+      (λ y. cond-both (λ (o : Outcome). o .gives .number ≡ 12 → ⊥) (counted m) _ _ (λ c x. omega arith) (λ c x. omega arith))
       (λ n. refusal-not 12 (receiveRows p t (length lent)) (λ x. omega arith) (rw (h, and-false (counted m)) tt))
 
   -- and there is one

@@ -11,20 +11,30 @@ use Rattle.laws.proofs.Ladders.{on, off, not-on, not-off, quiet, first-refuses,
 use Rattle.frame.specs.declared.Fields.{Fields}
 use Rattle.frame.specs.declared.Message.{Message}
 use Rattle.frame.specs.Frame.{fieldsOf, formRows}
+use Rattle.frame.specs.Table.{senderTests, turnTests, receiveTests}
 use Rattle.post.specs.declared.Post.{Post}
+use Rattle.laws.specs.Lists.{many}
+use Rattle.frame.specs.Message.{by}
+use Rattle.post.specs.Record.{lastOf, waitingOf}
 use Rattle.post.specs.Sound.{sound}
-use Rattle.post.specs.Calls.{senderRows, turnRows, receiveRows}
+use Rattle.post.specs.Calls.{receiveRows}
 
 module _ (p : Post) (s : List ℕ) (n : ℕ) (f : Fields) (e : f ≡ fieldsOf s) where
+  abbrev from : Message → List Row
+  from m = senderTests (p .posts) (p .own) m
+
+  abbrev turn : Message → List Row
+  turn m = turnTests (p .clock) (lastOf p (m .sender)) (many (by (m .sender)) (waitingOf p)) m
+
   -- the rows, from the fields that were split off
   abbrev after-form : Fields → List Row
-  after-form x = 6 when not (eqb (x .feeder) (p .feeder)) ∷ senderRows p (x .message) ++ turnRows p (x .message)
+  after-form x = 6 when not (eqb (x .feeder) (p .feeder)) ∷ from (x .message) ++ turn (x .message)
 
   abbrev rows : Fields → List Row
   rows x = 1 when not (sound p) ∷ 2 when ltb n 12 ∷ formRows (length s) x ++ after-form x
 
   are-rows : {r : ℕ} → r ≡ refusal (rows f) → r ≡ refusal (receiveRows p s n)
-  unfolding receiveRows
+  unfolding receiveRows receiveTests
   are-rows h = h ∙ ap (λ (x : Fields). refusal (rows x)) e
 
   module _ (y : not (sound p) ≡ false) (l : 12 ≤ n) {a : ℕ} (ea : a ≡ refusal (formRows (length s) f)) where
@@ -39,21 +49,22 @@ module _ (p : Post) (s : List ℕ) (n : ℕ) (f : Fields) (e : f ≡ fieldsOf s)
     pub elsewhere : a ≡ 0 → (f .feeder ≡ p .feeder → ⊥) → 6 ≡ refusal (receiveRows p s n)
     elsewhere z d = formed z (on _ _ _ (not-on _ (ne-eqb _ _ d)) refl)
 
-    module _ (z : a ≡ 0) (d : f .feeder ≡ p .feeder) {b : ℕ} (eb : b ≡ refusal (senderRows p (f .message))) where
-      here : {r : ℕ} → r ≡ refusal (senderRows p (f .message) ++ turnRows p (f .message)) → r ≡ refusal (receiveRows p s n)
+    module _ (z : a ≡ 0) (d : f .feeder ≡ p .feeder) {b : ℕ} (eb : b ≡ refusal (from (f .message))) where
+      here : {r : ℕ} → r ≡ refusal (from (f .message) ++ turn (f .message)) → r ≡ refusal (receiveRows p s n)
       here h = formed z (off _ _ _ (not-off _ (eq-eqb _ _ d)) h)
 
       pub no-sender : (b ≡ 0 → ⊥) → b ≡ refusal (receiveRows p s n)
-      no-sender w = here (eb ∙ first-refuses (senderRows p (f .message)) (turnRows p (f .message)) (λ q. w (eb ∙ q)))
+      no-sender w = here (eb ∙ first-refuses (from (f .message)) (turn (f .message)) (λ q. w (eb ∙ q)))
 
-      pub sent-by : b ≡ 0 → {r : ℕ} → r ≡ refusal (turnRows p (f .message)) → r ≡ refusal (receiveRows p s n)
-      unfolding senderRows
-      sent-by w h = here (h ∙ first-passes (senderRows p (f .message)) (turnRows p (f .message)) (quiet (senderRows p (f .message)) tt (sym eb ∙ w)))
+      pub sent-by : b ≡ 0 → {k r : ℕ} → k ≡ many (by (f .message .sender)) (waitingOf p)
+          → r ≡ refusal (turnTests (p .clock) (lastOf p (f .message .sender)) k (f .message)) → r ≡ refusal (receiveRows p s n)
+      unfolding senderTests
+      sent-by w ek h = here (h ∙ ap (λ (x : ℕ). refusal (turnTests (p .clock) (lastOf p (f .message .sender)) x (f .message))) ek ∙ first-passes (from (f .message)) (turn (f .message)) (quiet (from (f .message)) tt (sym eb ∙ w)))
 
 -- a sender that the rows let pass is on the feeder
-pub on-feeder : (p : Post) (m : Message) → refusal (senderRows p m) ≡ 0 → m .sender < p .posts
-unfolding senderRows
-on-feeder p m e = leb-false (p .posts) (m .sender) (second (eqb (m .sender) (p .own)) _ (quiet (senderRows p m) tt e .1 .0))
+pub on-feeder : (posts own : ℕ) (m : Message) → refusal (senderTests posts own m) ≡ 0 → m .sender < posts
+unfolding senderTests
+on-feeder posts own m e = leb-false posts (m .sender) (second (eqb (m .sender) own) _ (quiet (senderTests posts own m) tt e .1 .0))
   where
     second : (a b : Bool) → a || b ≡ false → b ≡ false
     second true b q = absurd (true≢false q)

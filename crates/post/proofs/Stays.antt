@@ -18,15 +18,14 @@ use Rattle.frame.specs.declared.Message.{Message}
 use Rattle.frame.specs.Message.{msg, lastCounter, stamp, isTake, isReturn, counted, by}
 use Rattle.frame.specs.Frame.{fieldsOf}
 use Rattle.post.specs.declared.Post.{Post}
-use Rattle.post.specs.declared.Answer.{Answer}
 use Rattle.post.specs.Record.{waitingOf}
 use Rattle.post.specs.Sound.{endKind}
 use Rattle.post.specs.Settle.{settle}
-use Rattle.post.specs.Calls.{spoken, ackClock, came, noted, takeRows, returnRows, receiveRows, sent, took, gaveBack, heardFrom, received}
+use Rattle.post.specs.Calls.{spoken, ackClock, came, noted, takeRows, returnRows, receiveRows, Outcome, unless, took, gaveBack, heardFrom, received}
 use Rattle.post.proofs.Shape.{Kept}
 use Rattle.post.proofs.SoundFacts.{Sound, sound-has}
 use Rattle.post.proofs.Above.{waiting-below}
-use Rattle.post.proofs.Accepted.{Speaks, take-speaks, return-speaks, Accepted, accepted}
+use Rattle.post.proofs.Accepted.{Spoken, take-speaks, return-speaks, Accepted, accepted}
 use Rattle.post.proofs.Standing.{ownTake, ownReturn, idle, asked, numbered, holding, Stands, standing}
 use Rattle.post.proofs.OwnMessages.{endKind-put-other, endKind-put-last}
 use Rattle.post.proofs.Raised.{Raised, raised-none, raised-more}
@@ -52,8 +51,8 @@ module _ (p : Post) (k : Kept p) (s : Sound p) where
     said-end : endKind (p .own) 0 (put stamp said (waitingOf p)) ≡ kind
     said-end = endKind-put-last (p .own) 0 said (waitingOf p) (eqb-refl (p .own)) (waiting-below p s)
 
-  take-kept : Speaks p 0 → Kept (settle (spoken p 1 1))
-  take-kept h = said-kept 1 1 (h .clock) tt (go (standing p s))
+  take-kept : {n : ℕ} → Spoken p n 0 → Kept (settle (spoken p 1 1))
+  take-kept h = said-kept 1 1 (h .1 .clock) tt (go (standing p s))
     where
       go : Stands (p .own) (p .phase) (p .order) (p .takes) (p .places + p .returns) (waitingOf p)
           → Stands (p .own) 1 0 (p .takes) (p .places + p .returns) (put stamp (msg 1 (p .own) (p .clock + 1)) (waitingOf p))
@@ -63,13 +62,13 @@ module _ (p : Post) (k : Kept p) (s : Sound p) where
           let x1 : one? (ownTake (p .own) m) ≡ 1 = rw (eq-eqb (p .own) (p .own) refl) in
           let y = many-put (ownReturn (p .own)) stamp m (waitingOf p) in
           let y1 : one? (ownReturn (p .own) m) ≡ 0 = rw (eq-eqb (p .own) (p .own) refl) in
-          asked refl refl (omega arith) (omega arith) (said-end 1 1 (h .clock))
+          asked refl refl (omega arith) (omega arith) (said-end 1 1 (h .1 .clock))
       go (asked e o a b c) = absurd (omega arith)
       go (numbered e lo hi l a b) = absurd (omega arith)
       go (holding e lo hi l a b) = absurd (omega arith)
 
-  return-kept : Speaks p 3 → Kept (settle (spoken p 2 0))
-  return-kept h = said-kept 2 0 (h .clock) tt (go (standing p s))
+  return-kept : {n : ℕ} → Spoken p n 3 → Kept (settle (spoken p 2 0))
+  return-kept h = said-kept 2 0 (h .1 .clock) tt (go (standing p s))
     where
       go : Stands (p .own) (p .phase) (p .order) (p .takes) (p .places + p .returns) (waitingOf p)
           → Stands (p .own) 0 0 (p .takes) (p .places + p .returns) (put stamp (msg 2 (p .own) (p .clock + 1)) (waitingOf p))
@@ -85,7 +84,7 @@ module _ (p : Post) (k : Kept p) (s : Sound p) where
       go (numbered e lo hi l a b) = absurd (omega arith)
 
   -- a message of another post
-  module _ (m : Message) (a : Accepted p m) (fits : m .counter ≤ lastCounter) where
+  module _ (m : Message) {n : ℕ} (a : Accepted p n m) (fits : m .counter ≤ lastCounter) where
     heard-up : Raised p (set (p .last) (m .sender) (m .counter)) (max (p .clock) (m .counter)) 1
     heard-up =
         raised-more p s (p .last) (p .clock) 0 (m .sender) (m .counter) (max (p .clock) (m .counter)) (raised-none p s (k .shape)) (a .sender) (a .new) (omega arith) (omega arith)
@@ -120,26 +119,26 @@ module _ (p : Post) (k : Kept p) (s : Sound p) where
 
 -- the calls, refused or not
 module _ (p : Post) (k : Kept p) where
-  pub took-kept : (lent : List ℕ) → Kept (took p lent .post)
-  unfolding sent
+  pub took-kept : (lent : List ℕ) → Kept (took p lent .gives .post)
+  unfolding unless
   took-kept lent =
-      cond-both (λ (r : Answer). Kept (r .post)) (eqb (refusal (takeRows p (length lent))) 0) _ _
+      cond-both (λ (o : Outcome). Kept (o .gives .post)) (eqb (refusal (takeRows p (length lent))) 0) _ _
       (λ y. take-kept p k (sound-has p (k .sound)) (take-speaks p (length lent) (eqb→eq (refusal (takeRows p (length lent))) 0 y)))
       (λ n. k)
 
-  pub gaveBack-kept : (lent : List ℕ) → Kept (gaveBack p lent .post)
-  unfolding sent
+  pub gaveBack-kept : (lent : List ℕ) → Kept (gaveBack p lent .gives .post)
+  unfolding unless
   gaveBack-kept lent =
-      cond-both (λ (r : Answer). Kept (r .post)) (eqb (refusal (returnRows p (length lent))) 0) _ _
+      cond-both (λ (o : Outcome). Kept (o .gives .post)) (eqb (refusal (returnRows p (length lent))) 0) _ _
       (λ y. return-kept p k (sound-has p (k .sound)) (return-speaks p (length lent) (eqb→eq (refusal (returnRows p (length lent))) 0 y)))
       (λ n. k)
 
-  pub received-kept : (t lent : List ℕ) → (fieldsOf t .message) .counter ≤ lastCounter → Kept (received p t lent .post)
-  unfolding heardFrom
+  pub received-kept : (t lent : List ℕ) → (fieldsOf t .message) .counter ≤ lastCounter → Kept (received p t lent .gives .post)
+  unfolding unless heardFrom
   received-kept t lent fits =
-      cond-both (λ (r : Answer). Kept (r .post)) (eqb (refusal (receiveRows p t (length lent))) 0) _ _
+      cond-both (λ (o : Outcome). Kept (o .gives .post)) (eqb (refusal (receiveRows p t (length lent))) 0) _ _
       (λ y. let m = fieldsOf t .message in
       let s = sound-has p (k .sound) in
-      let a = accepted p t (length lent) (eqb→eq (refusal (receiveRows p t (length lent))) 0 y) in
-      cond-both (λ (r : Answer). Kept (r .post)) (counted m) _ _ (came-kept p k s m a fits) (λ c. noted-kept p k s m a fits))
+      let a = accepted p t (length lent) (eqb→eq (refusal (receiveRows p t (length lent))) 0 y) .1 in
+      cond-both (λ (o : Outcome). Kept (o .gives .post)) (counted m) _ _ (came-kept p k s m a fits) (λ c. noted-kept p k s m a fits))
       (λ n. k)

@@ -9,9 +9,9 @@ use Rattle.post.specs.declared.Answer.{Answer}
 use Rattle.post.specs.declared.Value.{Value}
 use Rattle.post.specs.declared.Missing.{Missing}
 use Rattle.post.specs.Sound.{sound}
-use Rattle.post.specs.Calls.{Gives, started, took, tookBytes, gaveBack, gaveBackBytes, received, receivedBytes, valued, missed}
+use Rattle.post.specs.Calls.{Outcome, Gives, started, took, gaveBack, received, valued, missed}
 
-gives-unique : {answer : Answer} {bytes : List ℕ} {a b : Answer} {x y : List ℕ} → Gives answer bytes a x → Gives answer bytes b y → (a ≡ b) × (x ≡ y)
+gives-unique : {o : Outcome} {a b : Answer} {x y : List ℕ} → Gives o a x → Gives o b y → (a ≡ b) × (x ≡ y)
 gives-unique p q = (p .gives ∙ sym (q .gives), p .leaves ∙ sym (q .leaves))
 
 pub start-unique : (posts own feeder places : ℕ) (a b : Started) → a ≡ started posts own feeder places → b ≡ started posts own feeder places → a ≡ b
@@ -20,14 +20,14 @@ start-unique posts own feeder places a b p q = p ∙ sym q
 pub sound-unique : (p : Post) (a b : Bool) → a ≡ sound p → b ≡ sound p → a ≡ b
 sound-unique p a b e f = e ∙ sym f
 
-pub take-unique : (p : Post) (lent x y : List ℕ) (a b : Answer) → Gives (took p lent) (tookBytes p lent) a x → Gives (took p lent) (tookBytes p lent) b y → (a ≡ b) × (x ≡ y)
+pub take-unique : (p : Post) (lent x y : List ℕ) (a b : Answer) → Gives (took p lent) a x → Gives (took p lent) b y → (a ≡ b) × (x ≡ y)
 take-unique p lent x y a b = gives-unique
 
-pub give-back-unique : (p : Post) (lent x y : List ℕ) (a b : Answer) → Gives (gaveBack p lent) (gaveBackBytes p lent) a x → Gives (gaveBack p lent) (gaveBackBytes p lent) b y
+pub give-back-unique : (p : Post) (lent x y : List ℕ) (a b : Answer) → Gives (gaveBack p lent) a x → Gives (gaveBack p lent) b y
     → (a ≡ b) × (x ≡ y)
 give-back-unique p lent x y a b = gives-unique
 
-pub receive-unique : (p : Post) (s lent x y : List ℕ) (a b : Answer) → Gives (received p s lent) (receivedBytes p s lent) a x → Gives (received p s lent) (receivedBytes p s lent) b y
+pub receive-unique : (p : Post) (s lent x y : List ℕ) (a b : Answer) → Gives (received p s lent) a x → Gives (received p s lent) b y
     → (a ≡ b) × (x ≡ y)
 receive-unique p s lent x y a b = gives-unique
 

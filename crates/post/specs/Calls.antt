@@ -1,17 +1,12 @@
 -- What each call gives back and leaves, for every record, every frame and every lent buffer.
-use mathlib.Core.Path.{_≡_}
-use mathlib.Core.Bool.{Bool, true, false, not, cond, _&&_, _||_}
-use mathlib.Core.List.{List, [], _∷_, _++_}
-use Prim.Native.Nat.{ℕ, _+_, max}
-use lib.Dec.{leb, ltb, eqb}
-use lib.IntN.{pos, _-ℤ_}
-use lib.ListN.{length, drop, set}
+use Rattle.laws.specs.Words.{_≡_, Bool, true, false, not, cond, _&&_, List, [], _∷_, ℕ, _+_, max, ltb, eqb, pos, _-ℤ_, length, set}
 use Rattle.laws.specs.Ladder.{Row, _when_, refusal}
 use Rattle.laws.specs.Lists.{many, put}
 use Rattle.laws.specs.Below.{countTo, bitsTo}
 use Rattle.frame.specs.declared.Message.{Message}
-use Rattle.frame.specs.Message.{msg, isTake, counted, known, lastCounter, stampOf, stamp, by}
-use Rattle.frame.specs.Frame.{frame, fieldsOf, formRows}
+use Rattle.frame.specs.Message.{msg, isTake, counted, stampOf, stamp, by}
+use Rattle.frame.specs.Frame.{over, fieldsOf}
+use Rattle.frame.specs.Table.{takeTests, returnTests, receiveTests}
 use Rattle.post.specs.declared.Post.{Post}
 use Rattle.post.specs.declared.Started.{Started}
 use Rattle.post.specs.declared.Answer.{Answer}
@@ -51,85 +46,64 @@ came p m =
 unfoldable pub noted : Post → Message → Post
 noted p m = remade p (max (p .clock) (m .counter)) (set (p .last) (m .sender) (m .counter)) (waitingOf p) (p .phase) (p .order)
 
--- ---- the refusals, in the order of the table; n is the length of the lent buffer
+-- ---- the refusals; n is the length of the lent buffer
 
 unfoldable pub takeRows : Post → ℕ → List Row
-takeRows p n = 1 when not (sound p) ∷ 2 when ltb n 12 ∷ 13 when not (eqb (p .phase) 0) ∷ 11 when leb lastCounter (p .clock) ∷ []
+takeRows p n = 1 when not (sound p) ∷ takeTests (p .phase) (p .clock) n
 
 unfoldable pub returnRows : Post → ℕ → List Row
-returnRows p n = 1 when not (sound p) ∷ 2 when ltb n 12 ∷ 14 when not (eqb (p .phase) 3) ∷ 11 when leb lastCounter (p .clock) ∷ []
-
-unfoldable pub senderRows : Post → Message → List Row
-senderRows p m =
-    7 when not (known (m .kind)) ∷ 8 when (eqb (m .sender) (p .own) || leb (p .posts) (m .sender)) ∷ 9 when eqb (m .counter) 0 ∷ []
-
-unfoldable pub turnRows : Post → Message → List Row
-turnRows p m =
-    10 when leb (m .counter) (lastOf p (m .sender))
-    ∷ 11 when (counted m && (leb lastCounter (p .clock) || leb lastCounter (m .counter)))
-    ∷ 12 when (counted m && leb 4 (many (by (m .sender)) (waitingOf p)))
-    ∷ []
+returnRows p n = 1 when not (sound p) ∷ returnTests (p .phase) (p .clock) n
 
 unfoldable pub receiveRows : Post → List ℕ → ℕ → List Row
 receiveRows p s n =
-    let f = fieldsOf s in
-    1 when not (sound p) ∷ 2 when ltb n 12
-    ∷ formRows (length s) f ++ (6 when not (eqb (f .feeder) (p .feeder)) ∷ senderRows p (f .message) ++ turnRows p (f .message))
+    1 when not (sound p) ∷ receiveTests (p .posts) (p .own) (p .feeder) (p .clock) (lastOf p) (λ q. many (by q) (waitingOf p)) s n
 
 -- ---- the calls
+
+-- a call's answer, and the lent bytes at its end
+pub record Outcome : Type 0 where
+  pub gives : Answer
+  pub leaves : List ℕ
+
+-- what came of a call is the outcome
+pub record Gives (o : Outcome) (result : Answer) (after : List ℕ) : Type 0 where
+  pub gives : result ≡ o .gives
+  pub leaves : after ≡ o .leaves
 
 -- done, with the phase before and the record after
 abbrev pub answer : ℕ → Post → Bool → Answer
 answer before p wrote = record { post = p; number = 0; wrote = wrote; granted = not (eqb before 3) && eqb (p .phase) 3 }
 
-abbrev pub done : Post → Post → Bool → Answer
-done p p′ wrote = answer (p .phase) p′ wrote
-
 abbrev pub refused : Post → ℕ → Answer
 refused p n = record { post = p; number = n; wrote = false; granted = false }
 
--- a message in the first bytes of the lent buffer
-abbrev pub over : Post → Message → List ℕ → List ℕ
-over p m lent = frame (p .feeder) m ++ drop 12 lent
+-- refused by the first row that applies; done where none does
+unfoldable pub unless : Post → List ℕ → List Row → Outcome → Outcome
+unless p lent rows done = cond (eqb (refusal rows) 0) done (record { gives = refused p (refusal rows); leaves = lent })
 
--- what a call gives, and the lent bytes at its end
-pub record Gives (answer : Answer) (bytes : List ℕ) (result : Answer) (after : List ℕ) : Type 0 where
-  pub gives : result ≡ answer
-  pub leaves : after ≡ bytes
+-- a message goes out, and the record is settled
+abbrev pub writing : Post → Post → Message → List ℕ → Outcome
+writing p p′ m lent = record { gives = answer (p .phase) (settle p′) true; leaves = over (p .feeder) m lent }
 
--- an own message of a kind, which brings the post to a phase, unless a row refuses it
-unfoldable pub sent : Post → ℕ → ℕ → List Row → Answer
-sent p kind phase rows = cond (eqb (refusal rows) 0) (done p (settle (spoken p kind phase)) true) (refused p (refusal rows))
+-- an own message of a kind, which brings the post to a phase
+abbrev pub said : Post → ℕ → ℕ → List ℕ → Outcome
+said p kind phase lent = writing p (spoken p kind phase) (msg kind (p .own) (p .clock + 1)) lent
 
-unfoldable pub sentBytes : Post → ℕ → List Row → List ℕ → List ℕ
-sentBytes p kind rows lent = cond (eqb (refusal rows) 0) (over p (msg kind (p .own) (p .clock + 1)) lent) lent
+abbrev pub took : Post → List ℕ → Outcome
+took p lent = unless p lent (takeRows p (length lent)) (said p 1 1 lent)
 
-abbrev pub took : Post → List ℕ → Answer
-took p lent = sent p 1 1 (takeRows p (length lent))
+abbrev pub gaveBack : Post → List ℕ → Outcome
+gaveBack p lent = unless p lent (returnRows p (length lent)) (said p 2 0 lent)
 
-abbrev pub tookBytes : Post → List ℕ → List ℕ
-tookBytes p lent = sentBytes p 1 (takeRows p (length lent)) lent
+-- a message comes in; a take or return is acknowledged
+abbrev pub acknowledged : Post → Message → List ℕ → Outcome
+acknowledged p m lent = writing p (came p m) (msg 3 (p .own) (ackClock p m)) lent
 
-abbrev pub gaveBack : Post → List ℕ → Answer
-gaveBack p lent = sent p 2 0 (returnRows p (length lent))
+unfoldable pub heardFrom : Post → Message → List ℕ → Outcome
+heardFrom p m lent = cond (counted m) (acknowledged p m lent) (record { gives = answer (p .phase) (settle (noted p m)) false; leaves = lent })
 
-abbrev pub gaveBackBytes : Post → List ℕ → List ℕ
-gaveBackBytes p lent = sentBytes p 2 (returnRows p (length lent)) lent
-
-unfoldable pub heardFrom : Post → Message → List Row → Answer
-heardFrom p m rows =
-    cond (eqb (refusal rows) 0)
-    (cond (counted m) (done p (settle (came p m)) true) (done p (settle (noted p m)) false))
-    (refused p (refusal rows))
-
-unfoldable pub heardBytes : Post → Message → List Row → List ℕ → List ℕ
-heardBytes p m rows lent = cond (eqb (refusal rows) 0) (cond (counted m) (over p (msg 3 (p .own) (ackClock p m)) lent) lent) lent
-
-abbrev pub received : Post → List ℕ → List ℕ → Answer
-received p s lent = heardFrom p (fieldsOf s .message) (receiveRows p s (length lent))
-
-abbrev pub receivedBytes : Post → List ℕ → List ℕ → List ℕ
-receivedBytes p s lent = heardBytes p (fieldsOf s .message) (receiveRows p s (length lent)) lent
+abbrev pub received : Post → List ℕ → List ℕ → Outcome
+received p s lent = unless p lent (receiveRows p s (length lent)) (heardFrom p (fieldsOf s .message) lent)
 
 -- ---- the inquiries
 

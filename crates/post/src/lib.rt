@@ -12,14 +12,13 @@ ghost use Prim.Native.Nat.{_≤_, _<_, _+_, _^_, max};
 ghost use lib.Dec.{eqb, ltb, leb, T};
 ghost use lib.ListN.{length};
 ghost use Rattle.laws.specs.Ladder.{_when_, refusal, every};
-ghost use Rattle.frame.specs.Message.{msg, known, counted, lastCounter, stampOf, by};
-ghost use Rattle.frame.specs.Frame.{fieldsOf};
-ghost use Rattle.laws.specs.Lists.{many};
-ghost use Rattle.post.specs.Record.{waitingOf, fresh};
+ghost use Rattle.frame.specs.Message.{known, lastCounter, stampOf};
+ghost use Rattle.frame.specs.Table.{senderTests, turnTests};
+ghost use Rattle.post.specs.Record.{lastOf, fresh};
 ghost use Rattle.post.specs.Sound.{inRange, numberRules, slotRules, countRules, sound};
-ghost use Rattle.post.specs.Settle.{orderAfter, phaseAfter, settle};
+ghost use Rattle.post.specs.Settle.{phaseAfter, settle};
 ghost use Rattle.post.specs.Inside.{Countable, Checked};
-ghost use Rattle.post.specs.Calls.{started, spoken, came, noted, ackClock, takeRows, returnRows, senderRows, turnRows, receiveRows, answer, done, refused, over, Gives, took, tookBytes, gaveBack, gaveBackBytes, received, receivedBytes, valued, missed};
+ghost use Rattle.post.specs.Calls.{started, spoken, came, noted, receiveRows, Gives, answer, refused, said, took, gaveBack, acknowledged, received, valued, missed};
 
 // Document 01's record, its fields in 01's order and widths.
 pub struct Post {
@@ -358,7 +357,7 @@ impl Post {
     }
 
     fn sender_number(self, m: Message) -> u8
-        ensures { λ r. ⌜ r ≡ refusal (senderRows self m) ⌝ }
+        ensures { λ r. ⌜ r ≡ refusal (senderTests (self .posts) (self .own) m) ⌝ }
     {
         if m.kind < 1 {
             return 7;
@@ -380,8 +379,8 @@ impl Post {
 
     // The refusals of a message by its turn, where so many of its sender wait.
     fn turn_number(self, m: Message, count: u8) -> u8
-        requires { ⌜ T (sound self) × (m .sender < self .posts) × (count ≡ many (by (m .sender)) (waitingOf self)) ⌝ }
-        ensures { λ r. ⌜ r ≡ refusal (turnRows self m) ⌝ }
+        requires { ⌜ T (sound self) × (m .sender < self .posts) ⌝ }
+        ensures { λ r. ⌜ r ≡ refusal (turnTests (self .clock) (lastOf self (m .sender)) count m) ⌝ }
     {
         let last = self.last;
         let from = m.sender as usize;
@@ -445,7 +444,7 @@ impl Post {
     // Sends an own take or return.
     fn say(self, kind: u8, phase: u8, buf: &mut [u8]) -> Answer
         requires { ⌜ T (sound self) × (self .clock < lastCounter) × T (known kind) × (12 ≤ length (now buf)) ⌝ }
-        ensures { λ r. ⌜ Gives (done self (settle (spoken self kind phase)) true) (over self (msg kind (self .own) (self .clock + 1)) (now (buf .entry))) r (now (buf .exit)) ⌝ }
+        ensures { λ r. ⌜ Gives (said self kind phase (now (buf .entry))) r (now (buf .exit)) ⌝ }
     {
         let m = Message {
             kind,
@@ -458,7 +457,7 @@ impl Post {
 
     // A truck is plugged in.
     pub fn take(self, buf: &mut [u8]) -> Answer
-        ensures { λ r. ⌜ Gives (took self (now (buf .entry))) (tookBytes self (now (buf .entry))) r (now (buf .exit)) ⌝ }
+        ensures { λ r. ⌜ Gives (took self (now (buf .entry))) r (now (buf .exit)) ⌝ }
     {
         let number = self.own_number(0, 13, buf.len());
         if number != 0 {
@@ -469,7 +468,7 @@ impl Post {
 
     // The truck is full.
     pub fn give_back(self, buf: &mut [u8]) -> Answer
-        ensures { λ r. ⌜ Gives (gaveBack self (now (buf .entry))) (gaveBackBytes self (now (buf .entry))) r (now (buf .exit)) ⌝ }
+        ensures { λ r. ⌜ Gives (gaveBack self (now (buf .entry))) r (now (buf .exit)) ⌝ }
     {
         let number = self.own_number(3, 14, buf.len());
         if number != 0 {
@@ -481,7 +480,7 @@ impl Post {
     // Takes in a take or return, and acknowledges it.
     fn accept(self, m: Message, buf: &mut [u8]) -> Answer
         requires { ⌜ T (sound self) × (m .sender < self .posts) × (max (self .clock) (m .counter) < lastCounter) × (12 ≤ length (now buf)) ⌝ }
-        ensures { λ r. ⌜ Gives (done self (settle (came self m)) true) (over self (msg 3 (self .own) (ackClock self m)) (now (buf .entry))) r (now (buf .exit)) ⌝ }
+        ensures { λ r. ⌜ Gives (acknowledged self m (now (buf .entry))) r (now (buf .exit)) ⌝ }
     {
         let ack = Message {
             kind: 3,
@@ -494,7 +493,7 @@ impl Post {
 
     // A frame has arrived.
     pub fn receive(self, frame: &[u8], buf: &mut [u8]) -> Answer
-        ensures { λ r. ⌜ Gives (received self (now (frame .entry)) (now (buf .entry))) (receivedBytes self (now (frame .entry)) (now (buf .entry))) r (now (buf .exit)) ⌝ }
+        ensures { λ r. ⌜ Gives (received self (now (frame .entry)) (now (buf .entry))) r (now (buf .exit)) ⌝ }
     {
         let number = self.receive_number(frame, buf.len());
         if number != 0 {

@@ -1,31 +1,31 @@
 use borrow.Author.Needs.{needs}
 use Rattle.laws.proofs.Ladders.{picks}
-use Rattle.post.specs.Calls.{senderRows}
+use Rattle.frame.specs.Table.{senderTests}
 use Rattle.post.proofs.Post.sender_number.Statement.{statement}
 use Rattle.post.proofs.Post.sender_number.Tie as tie
 
 returns : tie.Need-returns
-unfolding senderRows
+unfolding senderTests
 returns c = search (picks, needs) depth 10
 
 returns-2 : tie.Need-returns-2
-unfolding senderRows
+unfolding senderTests
 returns-2 c = search (picks, needs) depth 10
 
 returns-3 : tie.Need-returns-3
-unfolding senderRows
+unfolding senderTests
 returns-3 c = search (picks, needs) depth 10
 
 returns-4 : tie.Need-returns-4
-unfolding senderRows
+unfolding senderTests
 returns-4 c = search (picks, needs) depth 10
 
 returns-5 : tie.Need-returns-5
-unfolding senderRows
+unfolding senderTests
 returns-5 c = search (picks, needs) depth 10
 
 returns-6 : tie.Need-returns-6
-unfolding senderRows
+unfolding senderTests
 returns-6 c = search (picks, needs) depth 10
 
 pub sender-number-spec : {M : Type 1} → statement M

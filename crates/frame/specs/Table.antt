@@ -1,0 +1,35 @@
+-- The table of refusals for the calls of a post: what is given and when, in the order of the tests.
+use Rattle.laws.specs.Words.{not, _&&_, _||_, List, [], _∷_, _++_, ℕ, leb, ltb, eqb, length}
+use Rattle.laws.specs.Ladder.{Row, _when_}
+use Rattle.frame.specs.declared.Message.{Message}
+use Rattle.frame.specs.Message.{counted, known, lastCounter}
+use Rattle.frame.specs.Frame.{fieldsOf, formRows}
+
+-- an own take or return; n is the length of the lent buffer
+unfoldable pub takeTests : ℕ → ℕ → ℕ → List Row
+takeTests phase clock n = 2 when ltb n 12 ∷ 13 when not (eqb phase 0) ∷ 11 when leb lastCounter clock ∷ []
+
+unfoldable pub returnTests : ℕ → ℕ → ℕ → List Row
+returnTests phase clock n = 2 when ltb n 12 ∷ 14 when not (eqb phase 3) ∷ 11 when leb lastCounter clock ∷ []
+
+-- a message that comes to post own of so many posts
+unfoldable pub senderTests : ℕ → ℕ → Message → List Row
+senderTests posts own m =
+    7 when not (known (m .kind)) ∷ 8 when (eqb (m .sender) own || leb posts (m .sender)) ∷ 9 when eqb (m .counter) 0 ∷ []
+
+-- with the clock, the last counter of the sender, and how many of the sender wait
+unfoldable pub turnTests : ℕ → ℕ → ℕ → Message → List Row
+turnTests clock last waiting m =
+    10 when leb (m .counter) last
+    ∷ 11 when (counted m && (leb lastCounter clock || leb lastCounter (m .counter)))
+    ∷ 12 when (counted m && leb 4 waiting)
+    ∷ []
+
+-- a frame s, with the last counter of each post and how many of each wait
+unfoldable pub receiveTests : ℕ → ℕ → ℕ → ℕ → (ℕ → ℕ) → (ℕ → ℕ) → List ℕ → ℕ → List Row
+receiveTests posts own feeder clock last waiting s n =
+    let f = fieldsOf s in
+    let m = f .message in
+    2 when ltb n 12
+    ∷ formRows (length s) f
+    ++ (6 when not (eqb (f .feeder) feeder) ∷ senderTests posts own m ++ turnTests clock (last (m .sender)) (waiting (m .sender)) m)
