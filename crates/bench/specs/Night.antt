@@ -8,8 +8,7 @@ use Rattle.frame.specs.declared.Message.{Message}
 use Rattle.frame.specs.Message.{blank, by}
 use Rattle.frame.specs.Frame.{fieldsOf, bytesAfter}
 use Rattle.post.specs.declared.Post.{Post}
-use Rattle.post.specs.declared.Answer.{Answer}
-use Rattle.post.specs.Calls.{started, took, tookBytes, gaveBack, gaveBackBytes, received, receivedBytes}
+use Rattle.post.specs.Calls.{Outcome, started, took, gaveBack, received}
 use Rattle.bench.specs.declared.Night.{Night}
 use Rattle.bench.specs.declared.calls.Called.{Called}
 use Rattle.bench.specs.declared.calls.Ran.{Ran}
@@ -24,18 +23,18 @@ abbrev pub lent : List ℕ
 lent = replicate 12 0
 
 -- a call's answer, and the message in the lent bytes after it
-abbrev pub called : Answer → List ℕ → Called
-called a bytes = record { answer = a; message = fieldsOf bytes .message }
+abbrev pub called : Outcome → Called
+called o = record { answer = o .gives; message = fieldsOf (o .leaves) .message }
 
 unfoldable pub takes : Post → Called
-takes p = called (took p lent) (tookBytes p lent)
+takes p = called (took p lent)
 
 unfoldable pub givesBack : Post → Called
-givesBack p = called (gaveBack p lent) (gaveBackBytes p lent)
+givesBack p = called (gaveBack p lent)
 
 -- the frame of m arrives
 unfoldable pub receives : Post → Message → Called
-receives p m = called (received p (bytesAfter lent 0 m) lent) (receivedBytes p (bytesAfter lent 0 m) lent)
+receives p m = called (received p (bytesAfter lent 0 m) lent)
 
 -- ---- the night
 

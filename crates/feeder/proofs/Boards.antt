@@ -17,7 +17,8 @@ use Rattle.frame.specs.Message.{by}
 use Rattle.frame.specs.Frame.{frame}
 use Rattle.frame.proofs.FrameFields.{frame-fields}
 use Rattle.queue.specs.Queue.{Queue, settled, grants}
-use Rattle.queue.specs.Calls.{Call, take-call, return-call, receive-call, onQueue}
+use Rattle.queue.specs.Replies.{Call, take-call, return-call, receive-call}
+use Rattle.queue.specs.Calls.{onQueue}
 use Rattle.queue.specs.Feeder.{Line, start, Feeder, fresh, sent, had, pending, Act, takeAt, returnAt, deliver, none, at-post, buffer, offered, made, after, run}
 use Rattle.queue.specs.Demand3.{marked}
 use Rattle.queue.proofs.Changes.{change}

@@ -5,14 +5,15 @@ use native.Mathlib.Omega.{arith}
 use lib.Dec.{T}
 use Rattle.frame.proofs.FrameFields.{counter-fits}
 use Rattle.queue.specs.Queue.{Start, Queue}
-use Rattle.queue.specs.Calls.{Call, take-call, return-call, receive-call, value-call, missing-call, onQueue, queueAfter, replies}
+use Rattle.queue.specs.Replies.{Call, take-call, return-call, receive-call, value-call, missing-call, after, replies}
+use Rattle.queue.specs.Calls.{onQueue}
 use Rattle.queue.proofs.Changes.{change}
 use Rattle.queue.proofs.Fitting.{Fitting, CounterFits, fitting-change}
 use Rattle.post.specs.declared.Post.{Post}
 use Rattle.post.specs.Sound.{sound}
 use Rattle.post.proofs.Ranges.{range-is}
 use Rattle.feeder.specs.Image.{image}
-use Rattle.feeder.specs.OnRecord.{onRecord, recordAfter, recordReplies}
+use Rattle.feeder.specs.OnRecord.{onRecord}
 use Rattle.feeder.specs.Demand2.{Accepted, FramesAreBytes, Demand2, SameRecord, SideBySide, RefusedStart}
 use Rattle.feeder.proofs.ImageSound.{image-sound}
 use Rattle.feeder.proofs.Answers.{Same, take-same, return-same, receive-same}
@@ -41,23 +42,23 @@ counters-fit value-call calls b = (tt, b)
 counters-fit missing-call calls b = (tt, b)
 
 any-calls : (st : Start) → Accepted st → (calls : List Call) → FramesAreBytes calls → (q : Queue) → Fitting st q
-    → (recordReplies (image st q) calls ≡ replies st q calls) × (recordAfter (image st q) calls ≡ image st (queueAfter st q calls))
-unfolding recordReplies replies recordAfter queueAfter
+    → (replies onRecord (image st q) calls ≡ replies (onQueue st) q calls) × (after onRecord (image st q) calls ≡ image st (after (onQueue st) q calls))
+unfolding after replies
 any-calls st a [] b q k = (refl, refl)
 any-calls st a (c ∷ calls) b q k =
     let f = counters-fit c calls b in
     let s = one-call st a q k c (f .0) in
     let q′ = onQueue st q c .next in
     let r = any-calls st a calls (f .1) q′ (fitting-change st c q q′ (f .0) (change st q c) k) in (
-      ap₂ _∷_ (s .reply) (ap (λ (p : Post). recordReplies p calls) (s .next) ∙ r .0),
-      ap (λ (p : Post). recordAfter p calls) (s .next) ∙ r .1,
+      ap₂ _∷_ (s .reply) (ap (λ (p : Post). replies onRecord p calls) (s .next) ∙ r .0),
+      ap (λ (p : Post). after onRecord p calls) (s .next) ∙ r .1,
     )
 
 pub demand2 : Demand2
-demand2 st a calls b = ap (λ (p : Post). recordReplies p calls) (started-image st a) ∙ any-calls st a calls b [] (started-fits st a) .0
+demand2 st a calls b = ap (λ (p : Post). replies onRecord p calls) (started-image st a) ∙ any-calls st a calls b [] (started-fits st a) .0
 
 pub same-record : SameRecord
-same-record st a calls b = ap (λ (p : Post). recordAfter p calls) (started-image st a) ∙ any-calls st a calls b [] (started-fits st a) .1
+same-record st a calls b = ap (λ (p : Post). after onRecord p calls) (started-image st a) ∙ any-calls st a calls b [] (started-fits st a) .1
 
 pub side-by-side : SideBySide
 unfolding image

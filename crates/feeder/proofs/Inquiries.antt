@@ -10,7 +10,8 @@ use Rattle.laws.proofs.Tests.{test}
 use Rattle.laws.proofs.BelowLaws.{sumTo-cong}
 use Rattle.frame.specs.Message.{stampOf, stamp, by}
 use Rattle.queue.specs.Queue.{Start, Queue, waiting, room, latest, phase, value, lacks}
-use Rattle.queue.specs.Calls.{value-call, missing-call, worth, lacking, onQueue}
+use Rattle.queue.specs.Replies.{value-call, missing-call, worth, lacking}
+use Rattle.queue.specs.Calls.{onQueue}
 use Rattle.queue.proofs.Good.{Sorted}
 use Rattle.queue.proofs.Granted.{latest-in}
 use Rattle.queue.proofs.Phases.{asked-latest}

@@ -3,7 +3,9 @@ use mathlib.Core.Path.{refl}
 use Rattle.laws.specs.Lists.{keep, all, final, put, upto, top}
 use Rattle.laws.specs.Below.{allTo, sumTo}
 use Rattle.frame.specs.Frame.{frame, fieldsOf, formRows}
+use Rattle.frame.specs.Table.{takeTests, returnTests, senderTests, turnTests, receiveTests}
 use Rattle.queue.specs.Queue.{clock, last, heard, settled, waiting, room, latest, phase, order, value, lacks}
+use Rattle.queue.specs.Replies.{after, replies}
 use Rattle.queue.specs.Calls as queue
 use Rattle.post.specs.Record.{leastTo, floor, fresh, remade}
 use Rattle.post.specs.Sound.{inRange, absentSilent, clockAbove, fair, rises, noneAlone, isBlank, few, endKind, ownFits, ownFew, sumFits, orderFits}
@@ -11,18 +13,17 @@ use Rattle.post.specs.Sound.{numberRules, slotRules, countRules, sound}
 use Rattle.post.specs.Settle.{upTo, ownNumber, orderAfter, phaseAfter, settle}
 use Rattle.post.specs.Calls as post
 use Rattle.feeder.specs.Image.{listFrom}
-use Rattle.feeder.specs.OnRecord.{onRecord, recordAfter, recordReplies}
+use Rattle.feeder.specs.OnRecord.{onRecord}
 use Rattle.feeder.specs.Nights.{nights, onTheRecord, onTheQueue, NightsHold}
 
 pub nights-hold : NightsHold
-unfolding nights onTheRecord onTheQueue onRecord recordAfter recordReplies listFrom
-    keep all final put upto top allTo sumTo frame fieldsOf formRows
+unfolding nights onTheRecord onTheQueue onRecord after replies listFrom
+    keep all final put upto top allTo sumTo frame fieldsOf formRows takeTests returnTests senderTests turnTests receiveTests
     clock last heard settled waiting room latest phase order value lacks
-    queue.saying queue.say queue.acks queue.accept queue.grantCame queue.takeRows queue.returnRows queue.fromRows queue.receiveRows
-    queue.send queue.received queue.onQueue queue.queueAfter queue.replies
+    queue.saying queue.say queue.acks queue.accept queue.grantCame queue.said queue.received queue.unless queue.onQueue
     leastTo floor fresh remade upTo ownNumber orderAfter phaseAfter settle
     inRange absentSilent clockAbove fair rises noneAlone isBlank few endKind ownFits ownFew sumFits orderFits
     numberRules slotRules countRules sound
-    post.started post.spoken post.came post.noted post.takeRows post.returnRows post.senderRows post.turnRows post.receiveRows
-    post.sent post.sentBytes post.heardFrom post.heardBytes post.valued post.ownStamp post.lacks post.missed
+    post.started post.spoken post.came post.noted post.takeRows post.returnRows post.receiveRows post.unless post.heardFrom
+    post.valued post.ownStamp post.lacks post.missed
 nights-hold = refl

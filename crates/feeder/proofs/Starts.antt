@@ -5,7 +5,7 @@ use mathlib.Core.Bool.{Bool, cond}
 use lib.Ieee.Bits.{is-true, is-false}
 use Rattle.laws.specs.Lists.{keep, final, top}
 use Rattle.queue.specs.Queue.{Start, clock, last, settled, waiting, latest, phase, order}
-use Rattle.queue.specs.Calls.{Call, take-call, return-call, receive-call, value-call, missing-call}
+use Rattle.queue.specs.Replies.{Call, take-call, return-call, receive-call, value-call, missing-call}
 use Rattle.queue.proofs.Fitting.{Fitting, fitting-empty}
 use Rattle.post.specs.declared.Post.{Post}
 use Rattle.post.specs.declared.Started.{Started}
@@ -35,7 +35,7 @@ started-fits st a =
     fitting-empty st (record { few = r .posts-high; mine = r .own-low })
 
 zero-refuses : (c : Call) → (onRecord (fresh 0 0 0 0) c .reply ≡ refusedOne c) × (onRecord (fresh 0 0 0 0) c .next ≡ fresh 0 0 0 0)
-unfolding onRecord post.takeRows post.returnRows post.receiveRows post.sent post.sentBytes post.heardFrom post.heardBytes post.valued
+unfolding onRecord post.takeRows post.returnRows post.receiveRows post.unless post.valued
     post.missed sound numberRules inRange fresh
 zero-refuses (take-call lent) = (refl, refl)
 zero-refuses (return-call lent) = (refl, refl)

@@ -15,12 +15,13 @@ use Rattle.laws.proofs.Tests.{test, cond-both, neqb→ne}
 use Rattle.laws.proofs.RisingLaws.{keep-put-no}
 use Rattle.frame.specs.declared.Message.{Message}
 use Rattle.frame.specs.Message.{stamp, by}
-use Rattle.frame.specs.Frame.{frame, fieldsOf}
-use Rattle.queue.specs.Queue.{Start, Queue}
-use Rattle.queue.specs.Calls.{Call, take-call, return-call, receive-call, value-call, missing-call, Answer, told, refused, saying, say, acks, accept, over}
-use Rattle.queue.specs.Calls.{takeRows, returnRows, receiveRows, send, received, onQueue}
+use Rattle.frame.specs.Frame.{frame, over, fieldsOf}
+use Rattle.frame.specs.Table.{takeTests, returnTests}
+use Rattle.queue.specs.Queue.{Start, Queue, clock, phase}
+use Rattle.queue.specs.Replies.{Call, take-call, return-call, receive-call, value-call, missing-call, Answer, told, refused}
+use Rattle.queue.specs.Calls.{saying, say, acks, accept, receiveRows, unless, said, received, onQueue}
 use Rattle.queue.proofs.Good.{Sorted, New, sorted-new}
-use Rattle.queue.proofs.Changes.{receive-passed}
+use Rattle.queue.proofs.Changes.{receives-new}
 use Rattle.queue.proofs.Parts.{keep-say-last, others-said, others-accepted, sender-accepted}
 use Rattle.feeder.specs.Records.{written, done}
 
@@ -62,7 +63,7 @@ module _ (st : Start) (q : Queue) where
 
   module _ (g : Sorted st q) where
     said-tells : (c : Call) (kind : ℕ) (granted : Bool) (lent : List ℕ) → ((r : ℕ) → brings c r ≡ false)
-        → Tells st q c (record { next = say st kind q; reply = told 0 true granted (over st (saying st kind q) lent) })
+        → Tells st q c (record { next = say st kind q; reply = told 0 true granted (over (st .feeder) (saying st kind q) lent) })
     said-tells c kind granted lent b = record {
       said = saying st kind q ∷ [];
       sends = keep-say-last st q (by (st .own)) g kind (unfold saying in eqb-refl (st .own));
@@ -70,12 +71,10 @@ module _ (st : Start) (q : Queue) where
       others = λ r d. let k = ap length (others-said st q kind r d) in rw (b r) (omega arith);
     }
 
-    sent-tells : (c : Call) (kind : ℕ) (rows : List Row) (lent : List ℕ) → ((r : ℕ) → brings c r ≡ false) → Tells st q c (send st q kind rows lent)
-    unfolding send
-    sent-tells c kind rows lent b =
-        cond-both {A = Answer Queue} (Tells st q c) (eqb (refusal rows) 0) _ _
-        (λ y. said-tells c kind _ lent b)
-        (λ n. refusal-tells c (refusal rows) lent n)
+    unless-tells : (c : Call) (rows : List Row) (lent : List ℕ) (a : Answer Queue) → (T (eqb (refusal rows) 0) → Tells st q c a)
+        → Tells st q c (unless q lent rows a)
+    unfolding unless
+    unless-tells c rows lent a t = cond-both {A = Answer Queue} (Tells st q c) (eqb (refusal rows) 0) _ _ t (refusal-tells c (refusal rows) lent)
 
     module _ (s lent : List ℕ) (granted : Bool) (w : New st q (fieldsOf s .message)) where
       abbrev m : Message
@@ -99,7 +98,7 @@ module _ (st : Start) (q : Queue) where
           go false e = e ∙ sym (append-nil (keep (by (st .own)) q))
 
       accepted-tells : Tells st q (receive-call s lent)
-          (record { next = accept st q m; reply = told 0 (acks m) granted (cond (acks m) (over st (saying st 3 p) lent) lent) })
+          (record { next = accept st q m; reply = told 0 (acks m) granted (cond (acks m) (over (st .feeder) (saying st 3 p) lent) lent) })
       accepted-tells = record {
         said = cond (acks m) (saying st 3 p ∷ []) [];
         sends = own-after;
@@ -114,19 +113,18 @@ module _ (st : Start) (q : Queue) where
             (λ n. let k = ap length (others-accepted st q r m d (neqb→ne r (m .sender) n)) in rw (is-false (eqb r (m .sender)) n) (omega arith));
       }
         where
-          go : (b : Bool) → written (told 0 b granted (cond b (over st (saying st 3 p) lent) lent))
+          go : (b : Bool) → written (told 0 b granted (cond b (over (st .feeder) (saying st 3 p) lent) lent))
               ≡ map (frame (st .feeder)) (cond b (saying st 3 p ∷ []) [])
           go true = ap (λ (l : List ℕ). l ∷ []) (one-frame (st .feeder) (saying st 3 p) (drop 12 lent))
           go false = refl
 
     pub tells : (c : Call) → Tells st q c (onQueue st q c)
-    unfolding onQueue received
-    tells (take-call lent) = sent-tells (take-call lent) 1 (takeRows st q (length lent)) lent (λ r. refl)
-    tells (return-call lent) = sent-tells (return-call lent) 2 (returnRows st q (length lent)) lent (λ r. refl)
+    unfolding onQueue said received
+    tells (take-call lent) = unless-tells (take-call lent) (takeTests (phase st q) (clock q) (length lent)) lent (said st q 1 lent) (λ y. said-tells (take-call lent) 1 _ lent (λ r. refl))
+    tells (return-call lent) = unless-tells (return-call lent) (returnTests (phase st q) (clock q) (length lent)) lent (said st q 2 lent) (λ y. said-tells (return-call lent) 2 _ lent (λ r. refl))
     tells (receive-call s lent) =
         let rows = receiveRows st q s (length lent) in
-        cond-both {A = Answer Queue} (Tells st q (receive-call s lent)) (eqb (refusal rows) 0) _ _
-        (λ y. accepted-tells s lent _ (receive-passed st q s (length lent) (eqb→eq (refusal rows) 0 y)))
-        (λ n. refusal-tells (receive-call s lent) (refusal rows) lent n)
+        unless-tells (receive-call s lent) rows lent (received st q (fieldsOf s .message) lent)
+        (λ y. accepted-tells s lent _ (receives-new st q s (length lent) (eqb→eq (refusal rows) 0 y)))
     tells value-call = unchanged-tells value-call (onQueue st q value-call) refl refl (λ r. refl)
     tells missing-call = unchanged-tells missing-call (onQueue st q missing-call) refl refl (λ r. refl)

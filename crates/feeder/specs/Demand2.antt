@@ -1,15 +1,12 @@
 -- Demand 2: the short record answers as the full queue does. What is stated; `proofs/` proves it.
-use mathlib.Core.Path.{_≡_}
-use mathlib.Core.Bool.{false, not}
-use mathlib.Core.List.{List, [], _∷_}
-use lib.Dec.{T}
-use lib.IntN.{pos}
+use Rattle.laws.specs.Words.{_≡_, false, not, List, [], _∷_, T, pos}
 use Rattle.laws.specs.Big.{Bytes}
 use Rattle.queue.specs.Queue.{Start, phase, order}
-use Rattle.queue.specs.Calls.{Call, take-call, return-call, receive-call, value-call, missing-call, Reply, told, worth, lacking, queueAfter, replies}
+use Rattle.queue.specs.Replies.{Call, take-call, return-call, receive-call, value-call, missing-call, Reply, told, worth, lacking, after, replies}
+use Rattle.queue.specs.Calls.{onQueue}
 use Rattle.post.specs.Sound.{inRange}
 use Rattle.feeder.specs.Image.{image}
-use Rattle.feeder.specs.OnRecord.{onRecord, recordAfter, recordReplies, startedPost}
+use Rattle.feeder.specs.OnRecord.{onRecord, startedPost}
 
 -- the start is accepted
 abbrev pub Accepted : Start → Type 0
@@ -26,16 +23,16 @@ FramesAreBytes (missing-call ∷ calls) = FramesAreBytes calls
 
 -- every answer of the record is the answer of the queue: numbers, marks, lent bytes, value, missing set and count
 abbrev pub Demand2 : Type 0
-Demand2 = (st : Start) → Accepted st → (calls : List Call) → FramesAreBytes calls → recordReplies (startedPost st) calls ≡ replies st [] calls
+Demand2 = (st : Start) → Accepted st → (calls : List Call) → FramesAreBytes calls → replies onRecord (startedPost st) calls ≡ replies (onQueue st) [] calls
 
 -- because the record is the record of the queue
 abbrev pub SameRecord : Type 0
-SameRecord = (st : Start) → Accepted st → (calls : List Call) → FramesAreBytes calls → recordAfter (startedPost st) calls ≡ image st (queueAfter st [] calls)
+SameRecord = (st : Start) → Accepted st → (calls : List Call) → FramesAreBytes calls → after onRecord (startedPost st) calls ≡ image st (after (onQueue st) [] calls)
 
 -- given the same calls, record and queue show the same order numbers and the same grants
 abbrev pub SideBySide : Type 0
 SideBySide = (st : Start) → Accepted st → (calls : List Call) → FramesAreBytes calls
-    → let p = recordAfter (startedPost st) calls in let q = queueAfter st [] calls in
+    → let p = after onRecord (startedPost st) calls in let q = after (onQueue st) [] calls in
     (p .order ≡ order st q) × (p .phase ≡ phase st q)
 
 -- what a call gives that is refused with 1

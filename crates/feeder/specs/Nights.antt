@@ -10,11 +10,12 @@ use Rattle.frame.specs.declared.Message.{Message}
 use Rattle.frame.specs.Message.{msg, isTake, isReturn, stampOf}
 use Rattle.frame.specs.Frame.{frame}
 use Rattle.queue.specs.Queue.{Start, clock, last, lastStamp, settled, waiting, phase, order}
-use Rattle.queue.specs.Calls.{Call, take-call, return-call, receive-call, value-call, missing-call, Reply, told, worth, lacking, queueAfter, replies}
+use Rattle.queue.specs.Replies.{Call, take-call, return-call, receive-call, value-call, missing-call, Reply, told, worth, lacking, after, replies}
+use Rattle.queue.specs.Calls.{onQueue}
 use Rattle.queue.specs.Feeder.{buffer}
 use Rattle.post.specs.Record.{lastOf, waitingOf, leastTo, floor}
 use Rattle.feeder.specs.Image.{listFrom}
-use Rattle.feeder.specs.OnRecord.{recordAfter, recordReplies, startedPost}
+use Rattle.feeder.specs.OnRecord.{onRecord, startedPost}
 
 -- what a post has at the end; last is by post from 0, floor is a stamp as one number
 pub record Closing : Type 0 where
@@ -199,9 +200,9 @@ pub record Shown : Type 0 where
 -- over the short record: its fields
 unfoldable pub onTheRecord : Night → Shown
 onTheRecord n =
-    let p = recordAfter (startedPost (n .start)) (n .calls) in
+    let p = after onRecord (startedPost (n .start)) (n .calls) in
     record {
-      answers = recordReplies (startedPost (n .start)) (n .calls);
+      answers = replies onRecord (startedPost (n .start)) (n .calls);
       closing = closing (p .clock) (listFrom 0 (n .start .posts) (lastOf p)) (floor p) (waitingOf p) (p .takes) (p .returns) (p .phase) (p .order);
     }
 
@@ -209,9 +210,9 @@ onTheRecord n =
 unfoldable pub onTheQueue : Night → Shown
 onTheQueue n =
     let st = n .start in
-    let q = queueAfter st [] (n .calls) in
+    let q = after (onQueue st) [] (n .calls) in
     record {
-      answers = replies st [] (n .calls);
+      answers = replies (onQueue st) [] (n .calls);
       closing = record {
         clock = clock q;
         last = listFrom 0 (st .posts) (λ r. last r q);

@@ -8,7 +8,7 @@ use lib.ListN.{length, take, drop}
 use Rattle.laws.specs.Below.{sumTo, countTo}
 use Rattle.frame.specs.Frame.{frame}
 use Rattle.queue.specs.Queue.{grants}
-use Rattle.queue.specs.Calls.{Call, take-call, return-call, receive-call, Reply, told, worth, lacking}
+use Rattle.queue.specs.Replies.{Call, take-call, return-call, receive-call, Reply, told, worth, lacking}
 use Rattle.queue.specs.Feeder.{Line, start, Act, takeAt, returnAt, deliver, buffer, fresh, sent, run, returnsSent}
 use Rattle.queue.specs.Demand3.{marked, Demand3}
 use Rattle.post.specs.declared.Post.{Post}

@@ -15,7 +15,8 @@ use Rattle.frame.specs.declared.Message.{Message}
 use Rattle.frame.specs.Message.{msg, isReturn, counted, known, lastCounter, stamp, by}
 use Rattle.frame.specs.Frame.{fieldsOf}
 use Rattle.queue.specs.Queue.{Start, Queue, clock, heard, waiting, latest}
-use Rattle.queue.specs.Calls.{Call, take-call, return-call, receive-call, value-call, missing-call, saying, say, acks, accept}
+use Rattle.queue.specs.Replies.{Call, take-call, return-call, receive-call, value-call, missing-call}
+use Rattle.queue.specs.Calls.{saying, say, acks, accept}
 use Rattle.queue.proofs.Good.{Fit, New}
 use Rattle.queue.proofs.Changes.{Change, unchanged, took, gave-back, accepted}
 use Rattle.queue.proofs.Granted.{grants-in, holding-latest}

@@ -5,7 +5,8 @@ use native.Mathlib.Omega.{arith}
 use lib.ListN.{length, length-append}
 use Rattle.laws.specs.Below.{one?}
 use Rattle.queue.specs.Queue.{Start, Queue, grants}
-use Rattle.queue.specs.Calls.{Call, onQueue}
+use Rattle.queue.specs.Replies.{Call}
+use Rattle.queue.specs.Calls.{onQueue}
 use Rattle.queue.specs.Demand3.{marked}
 use Rattle.queue.proofs.Changes.{change}
 use Rattle.queue.proofs.Grow.{later}

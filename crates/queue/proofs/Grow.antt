@@ -12,7 +12,8 @@ use Rattle.frame.specs.declared.Message.{Message}
 use Rattle.frame.specs.Message.{isTake, isReturn, known, stamp, by}
 use Rattle.frame.specs.Frame.{fieldsOf}
 use Rattle.queue.specs.Queue.{Start, Queue, last, heard, settled, takes, number, room}
-use Rattle.queue.specs.Calls.{Call, saying, say, acks, accept}
+use Rattle.queue.specs.Replies.{Call}
+use Rattle.queue.specs.Calls.{saying, say, acks, accept}
 use Rattle.queue.proofs.Good.{in-say, Sorted, New, say-above, sorted-say, sorted-new}
 use Rattle.queue.proofs.Changes.{Change, unchanged, took, gave-back, accepted}
 use Rattle.queue.proofs.Heard.{heard-at, at-heard, settled-in, in-settled, settled-rising, takes-rising}

@@ -17,7 +17,8 @@ use Rattle.frame.specs.declared.Message.{Message}
 use Rattle.frame.specs.Message.{isReturn, stamp, by}
 use Rattle.frame.specs.Frame.{fieldsOf}
 use Rattle.queue.specs.Queue.{Start, Queue, settled, grants, latest, phase}
-use Rattle.queue.specs.Calls.{Call, receive-call, saying, grantCame}
+use Rattle.queue.specs.Replies.{Call, receive-call}
+use Rattle.queue.specs.Calls.{saying, grantCame}
 use Rattle.queue.specs.Feeder.{Line, start, Feeder, sent, returnsSent, granted, holding}
 use Rattle.queue.proofs.Good.{Fit, Good, good-empty}
 use Rattle.queue.proofs.Changes.{Change, unchanged, took, gave-back, accepted, good-change}

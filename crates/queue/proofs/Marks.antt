@@ -16,9 +16,10 @@ use Rattle.laws.proofs.RisingLaws.{rising-unique, rising-same, rising-snoc, in-
 use Rattle.frame.specs.declared.Message.{Message}
 use Rattle.frame.specs.Message.{isTake, isReturn, stamp, by}
 use Rattle.frame.specs.Frame.{fieldsOf}
-use Rattle.queue.specs.Queue.{Start, Queue, grants, latest, phase}
-use Rattle.queue.specs.Calls.{Call, take-call, return-call, receive-call, value-call, missing-call, Answer, refused, saying, say, acks, accept}
-use Rattle.queue.specs.Calls.{grantCame, takeRows, returnRows, receiveRows, send, received, onQueue, queueAfter}
+use Rattle.frame.specs.Table.{takeTests, returnTests}
+use Rattle.queue.specs.Queue.{Start, Queue, clock, grants, latest, phase}
+use Rattle.queue.specs.Replies.{Call, take-call, return-call, receive-call, value-call, missing-call, Answer, refused, after}
+use Rattle.queue.specs.Calls.{saying, say, acks, accept, grantCame, receiveRows, unless, said, received, onQueue, queueAfter}
 use Rattle.queue.specs.Demand3.{marked, markedTakes}
 use Rattle.queue.proofs.Good.{Good, New, in-say, say-above}
 use Rattle.queue.proofs.Changes.{Change, unchanged, took, gave-back, accepted, change, good-change}
@@ -155,24 +156,24 @@ none true = refl
 none false = refl
 
 told-or-refused : (st : Start) (q : Queue) (rows : List Row) (lent : List ℕ) (a : Answer Queue) → marked (a .reply) ≡ grantCame st q (a .next)
-    → let b = cond (eqb (refusal rows) 0) a (refused q (refusal rows) lent) in marked (b .reply) ≡ grantCame st q (b .next)
-unfolding grantCame
+    → let b = unless q lent rows a in marked (b .reply) ≡ grantCame st q (b .next)
+unfolding unless grantCame
 told-or-refused st q rows lent a e =
     cond-both {A = Answer Queue} (λ b. marked (b .reply) ≡ grantCame st q (b .next)) (eqb (refusal rows) 0) a (refused q (refusal rows) lent)
     (λ y. e)
     (λ n. none (holds st q))
 
 pub mark-came : (st : Start) (q : Queue) (c : Call) → marked (onQueue st q c .reply) ≡ grantCame st q (onQueue st q c .next)
-unfolding onQueue send received grantCame
-mark-came st q (take-call lent) = told-or-refused st q (takeRows st q (length lent)) lent _ refl
-mark-came st q (return-call lent) = told-or-refused st q (returnRows st q (length lent)) lent _ refl
-mark-came st q (receive-call s lent) = told-or-refused st q (receiveRows st q s (length lent)) lent _ refl
+unfolding onQueue said received grantCame
+mark-came st q (take-call lent) = told-or-refused st q (takeTests (phase st q) (clock q) (length lent)) lent (said st q 1 lent) refl
+mark-came st q (return-call lent) = told-or-refused st q (returnTests (phase st q) (clock q) (length lent)) lent (said st q 2 lent) refl
+mark-came st q (receive-call s lent) = told-or-refused st q (receiveRows st q s (length lent)) lent (received st q (fieldsOf s .message) lent) refl
 mark-came st q value-call = none (holds st q)
 mark-came st q missing-call = none (holds st q)
 
 pub grants-marked : (st : Start) (calls : List Call) (q : Queue) → Good st q → Paid st q
     → grants st (queueAfter st q calls) ≡ grants st q ++ markedTakes st q calls
-unfolding queueAfter markedTakes
+unfolding after markedTakes
 grants-marked st [] q g p = sym (append-nil (grants st q))
 grants-marked st (c ∷ calls) q g p =
     let q′ = onQueue st q c .next in

@@ -18,7 +18,8 @@ use Rattle.frame.specs.Frame.{frame, fieldsOf}
 use Rattle.frame.proofs.Frames.{InWidth}
 use Rattle.frame.proofs.FrameFields.{frame-fields}
 use Rattle.queue.specs.Queue.{Start, Queue, clock}
-use Rattle.queue.specs.Calls.{Call, take-call, return-call, receive-call, value-call, missing-call, saying, say, acks, accept, onQueue}
+use Rattle.queue.specs.Replies.{Call, take-call, return-call, receive-call, value-call, missing-call}
+use Rattle.queue.specs.Calls.{saying, say, acks, accept, onQueue}
 use Rattle.queue.specs.Feeder.{Line, start, Feeder, fresh, sent, had, pending, Act, takeAt, returnAt, deliver, none, at-post}
 use Rattle.queue.specs.Feeder.{buffer, offered, made, with-queue, after, run}
 use Rattle.queue.specs.Demand3.{Faithful}

@@ -8,7 +8,8 @@ use Rattle.laws.specs.Lists.{In, keep, Begins}
 use Rattle.frame.specs.declared.Message.{Message}
 use Rattle.frame.specs.Message.{counted}
 use Rattle.queue.specs.Queue.{Start, Queue, settled, takes, number, grants, latest}
-use Rattle.queue.specs.Calls.{Call, Reply, told, worth, lacking, onQueue, queueAfter}
+use Rattle.queue.specs.Replies.{Call, Reply, told, worth, lacking}
+use Rattle.queue.specs.Calls.{onQueue, queueAfter}
 use Rattle.queue.specs.Feeder.{Line, start, Feeder, fresh, sent, had, Act, run, returnsSent, granted, holding}
 
 -- each post's queue was made by calls at that post, with any frames and buffers

@@ -10,7 +10,8 @@ use Rattle.frame.specs.declared.Message.{Message}
 use Rattle.frame.specs.Message.{isReturn, by}
 use Rattle.frame.specs.Frame.{frame}
 use Rattle.queue.specs.Queue.{Start, Queue, grants, phase}
-use Rattle.queue.specs.Calls.{Call, take-call, return-call, receive-call, onQueue}
+use Rattle.queue.specs.Replies.{Call, take-call, return-call, receive-call}
+use Rattle.queue.specs.Calls.{onQueue}
 
 -- what the posts of a feeder are started with alike
 pub record Line : Type 0 where

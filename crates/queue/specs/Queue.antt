@@ -1,10 +1,5 @@
 -- A post by its full queue: every message that it sent or accepted, sorted by stamp. All else is worked out from that list.
-use mathlib.Core.Bool.{Bool, not, cond, _&&_, _||_}
-use mathlib.Core.List.{List}
-use Prim.Native.Nat.{ℕ, _+_}
-use lib.Dec.{leb, ltb, eqb}
-use lib.IntN.{ℤ, pos, _-ℤ_}
-use lib.ListN.{length}
+use Rattle.laws.specs.Words.{Bool, not, cond, _&&_, _||_, List, ℕ, _+_, leb, ltb, eqb, ℤ, pos, _-ℤ_, length}
 use Rattle.laws.specs.Lists.{keep, many, final, upto, top}
 use Rattle.laws.specs.Below.{allTo}
 use Rattle.frame.specs.declared.Message.{Message}

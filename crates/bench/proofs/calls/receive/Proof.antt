@@ -4,7 +4,7 @@ use Prim.Native.Nat.{ℕ}
 use mathlib.Core.List.{List}
 use mathlib.Core.Path.{ap, _∙_}
 use Rattle.frame.specs.Frame.{fieldsOf}
-use Rattle.post.specs.Calls.{received, receivedBytes}
+use Rattle.post.specs.Calls.{received}
 use Rattle.bench.specs.Night.{lent, receives}
 use Rattle.bench.proofs.calls.receive.Statement.{statement}
 use Rattle.bench.proofs.calls.receive.Tie as tie
@@ -35,8 +35,8 @@ unfolding receives
 returns c =
     let p = c .before .before .before .before .before .before .before .before .before .before .args .p in
     let f = c .before .before .before .before .before .before .before .before .write .ensures .leaves in
-    let m = c .before .split .ensures ∙ ap fieldsOf (c .before .before .before .before .receive .ensures .leaves ∙ ap (λ (s : List ℕ). receivedBytes p s lent) f) in
-    let a = c .before .before .before .before .receive .ensures .gives ∙ ap (λ (s : List ℕ). received p s lent) f in
+    let m = c .before .split .ensures ∙ ap fieldsOf (c .before .before .before .before .receive .ensures .leaves ∙ ap (λ (s : List ℕ). received p s lent .leaves) f) in
+    let a = c .before .before .before .before .receive .ensures .gives ∙ ap (λ (s : List ℕ). received p s lent .gives) f in
     λ i. record { answer = a i; message = m i .message }
 
 pub receive-spec : {M : Type 1} → statement M

@@ -1,0 +1,31 @@
+-- The calls that are made of a post, and what they give back: the same of the short record and of the full queue.
+use Rattle.laws.specs.Words.{Bool, false, List, [], _∷_, ℕ, ℤ}
+
+-- a call, with the frame that is handed in and the bytes that are lent
+pub data Call : Type 0 where
+  take-call return-call : List ℕ → Call
+  receive-call : List ℕ → List ℕ → Call
+  value-call missing-call : Call
+
+-- what a call gives back, with the lent bytes after it
+pub data Reply : Type 0 where
+  told : (number : ℕ) (wrote granted : Bool) (lent : List ℕ) → Reply
+  worth : (number : ℕ) (value : ℤ) → Reply
+  lacking : (number set count : ℕ) → Reply
+
+pub record Answer (S : Type 0) : Type 0 where
+  pub next : S
+  pub reply : Reply
+
+abbrev pub refused : {S : Type 0} → S → ℕ → List ℕ → Answer S
+refused s n lent = record { next = s; reply = told n false false lent }
+
+-- calls one after another: the state after them, and what each gives back
+module _ {S : Type 0} (step : S → Call → Answer S) where
+  unfoldable pub after : S → List Call → S
+  after s [] = s
+  after s (c ∷ calls) = after (step s c .next) calls
+
+  unfoldable pub replies : S → List Call → List Reply
+  replies s [] = []
+  replies s (c ∷ calls) = step s c .reply ∷ replies (step s c .next) calls
