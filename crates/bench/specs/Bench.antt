@@ -1,10 +1,5 @@
 -- The bench, fed byte by byte: what each byte does and writes, and what is written at the end of the input.
-use mathlib.Core.Path.{_≡_}
-use mathlib.Core.Bool.{Bool, true, false, not, cond, _&&_, _||_}
-use mathlib.Core.List.{List, [], _∷_, _++_}
-use Prim.Native.Nat.{ℕ, _+_, _-_, _≤_}
-use lib.Dec.{leb, ltb, eqb}
-use lib.ListN.{length}
+use Rattle.laws.specs.Words.{Bool, true, false, not, cond, _&&_, _||_, List, [], _∷_, _++_, _≡_, ℕ, _+_, _-_, _≤_, leb, ltb, eqb, length}
 use lib.Seq.{sets}
 use Rattle.laws.specs.Lists.{many}
 use Rattle.post.specs.declared.Post.{Post}

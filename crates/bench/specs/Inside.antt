@@ -1,9 +1,5 @@
 -- What functions inside the crate promise each other: the one header or command that a line can be, by its digits.
-use mathlib.Core.Bool.{Bool, cond, _&&_}
-use mathlib.Core.List.{List}
-use Prim.Native.Nat.{ℕ, _+_, _*_, _-_, _<_}
-use lib.Dec.{leb, ltb, eqb}
-use lib.ListN.{getD}
+use Rattle.laws.specs.Words.{Bool, cond, _&&_, List, ℕ, _+_, _-_, _*_, _<_, leb, ltb, eqb, getD}
 use Rattle.bench.specs.declared.lines.Header.{Header}
 use Rattle.bench.specs.declared.lines.Command.{Command}
 use Rattle.bench.specs.declared.lines.Command.the-variants.{Take, Return, Deliver, Unknown}

@@ -1,9 +1,5 @@
 -- Lines: the one being read, and which header or command a line is.
-use mathlib.Core.Bool.{Bool, false, not, cond, _&&_}
-use mathlib.Core.List.{List, _∷_, _++_, map}
-use Prim.Native.Nat.{ℕ, _+_}
-use lib.Dec.{ltb, eqb}
-use lib.ListN.{take, set, replicate}
+use Rattle.laws.specs.Words.{Bool, false, not, cond, _&&_, List, _∷_, _++_, map, ℕ, _+_, ltb, eqb, take, replicate, set}
 use Rattle.laws.specs.Lists.{keep}
 use Rattle.bench.specs.declared.Line.{Line}
 use Rattle.bench.specs.declared.lines.Header.{Header}

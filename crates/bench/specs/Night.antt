@@ -1,9 +1,5 @@
 -- A night: the records, the messages sent, and how far each post has read of each other's. What a command does to it.
-use mathlib.Core.Bool.{false, cond, _&&_}
-use mathlib.Core.List.{List, [], _∷_, map}
-use Prim.Native.Nat.{ℕ, _+_, _*_}
-use lib.Dec.{leb, ltb, eqb}
-use lib.ListN.{getD, take, drop, set, replicate}
+use Rattle.laws.specs.Words.{false, cond, _&&_, List, [], _∷_, map, ℕ, _+_, _*_, leb, ltb, eqb, getD, take, drop, replicate, set}
 use Rattle.frame.specs.declared.Message.{Message}
 use Rattle.frame.specs.Message.{blank, by}
 use Rattle.frame.specs.Frame.{fieldsOf, bytesAfter}

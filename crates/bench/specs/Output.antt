@@ -1,9 +1,5 @@
 -- The whole output for a whole input, line by line.
-use mathlib.Core.Bool.{false, cond}
-use mathlib.Core.List.{List, [], _∷_, _++_}
-use Prim.Native.Nat.{ℕ, _+_}
-use lib.Dec.{ltb, eqb}
-use lib.ListN.{length}
+use Rattle.laws.specs.Words.{false, cond, List, [], _∷_, _++_, ℕ, _+_, ltb, eqb, length}
 use Rattle.bench.specs.declared.Night.{Night}
 use Rattle.bench.specs.declared.lines.Header.{Header}
 use Rattle.bench.specs.declared.lines.Command.the-variants.{Unknown}

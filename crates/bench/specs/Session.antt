@@ -1,10 +1,5 @@
 -- Feeding a bench piece by piece until all is used or it is over, and finishing it.
-use mathlib.Core.Path.{_≡_}
-use mathlib.Core.Logic.{_⊎_}
-use mathlib.Core.Bool.{true}
-use mathlib.Core.List.{List, [], _++_}
-use Prim.Native.Nat.{ℕ, _≤_}
-use lib.ListN.{length, take, drop}
+use Rattle.laws.specs.Words.{true, List, [], _++_, _≡_, _⊎_, ℕ, _≤_, length, take, drop}
 use Rattle.bench.specs.declared.Bench.{Bench}
 use Rattle.bench.specs.Bench.{isOver, feeding, finished, finishedBytes}
 

@@ -1,10 +1,5 @@
 -- The texts that the bench reads and writes, as bytes.
-use mathlib.Core.Path.{_≡_}
-use mathlib.Core.Bool.{Bool, cond}
-use mathlib.Core.List.{List, [], _∷_, _++_}
-use Prim.Native.Nat.{ℕ, _+_, _/_, _%_}
-use lib.Dec.{ltb}
-use lib.ListN.{length}
+use Rattle.laws.specs.Words.{Bool, cond, List, [], _∷_, _++_, _≡_, ℕ, _+_, _/_, _%_, ltb, length}
 use lib.Seq.{sets}
 use Rattle.bench.specs.declared.lines.Command.{Command}
 use Rattle.bench.specs.declared.lines.Command.the-variants.{Take, Return, Deliver, Unknown}

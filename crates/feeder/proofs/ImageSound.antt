@@ -15,13 +15,13 @@ use Rattle.laws.proofs.BelowLaws.{sumTo-cong}
 use Rattle.laws.proofs.ScanLaws.{many-length}
 use Rattle.laws.proofs.CountLaws.{length-none}
 use Rattle.frame.specs.declared.Message.{Message}
-use Rattle.frame.specs.Message.{blank, isTake, isReturn, stamp, by}
+use Rattle.frame.specs.Message.{blank, isTake, isReturn, stamp, by, ownTake, ownReturn}
 use Rattle.queue.specs.Queue.{Start, Queue, clock, last, heard, settled, waiting, takes, number, room, latest, phase, order}
 use Rattle.queue.proofs.Good.{Sorted, le-last}
 use Rattle.queue.proofs.Heard.{at-heard}
 use Rattle.queue.proofs.Granted.{latest-most, latest-in}
 use Rattle.queue.proofs.Phases.{phase-idle, order-idle, phase-asked, order-asked, phase-numbered, order-numbered, number-some, phase-small}
-use Rattle.queue.proofs.Waiting.{waiting-in, waiting-rising, ownTake, ownReturn, latest-waits}
+use Rattle.queue.proofs.Waiting.{waiting-in, waiting-rising, latest-waits}
 use Rattle.queue.proofs.Clocks.{last-none, last-le-clock}
 use Rattle.queue.proofs.Fitting.{Fitting}
 use Rattle.queue.proofs.Totals.{total-fits, one-take, no-take, none-own, waits-few}

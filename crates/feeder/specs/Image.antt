@@ -1,7 +1,5 @@
 -- The short record that a full queue comes to: every field is a function of the queue.
-use mathlib.Core.List.{List, [], _∷_}
-use Prim.Native.Nat.{ℕ, zero, suc}
-use lib.ListN.{length}
+use Rattle.laws.specs.Words.{List, [], _∷_, ℕ, zero, suc, length}
 use Rattle.laws.specs.Lists.{many}
 use Rattle.frame.specs.Message.{isTake, isReturn}
 use Rattle.queue.specs.Queue.{Start, Queue, clock, last, settled, waiting, phase, order}

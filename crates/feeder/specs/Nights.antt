@@ -1,10 +1,6 @@
 -- Document 01's nights P1 to P10: for each, the calls at one post, every reply in full, and what the post has at the end.
 -- `proofs/NightsHold` reckons all of them through, over the short record and over the full queue.
-use mathlib.Core.Path.{_≡_}
-use mathlib.Core.Bool.{true, false}
-use mathlib.Core.List.{List, [], _∷_, _++_, map}
-use Prim.Native.Nat.{ℕ, _^_}
-use lib.IntN.{pos, negsuc}
+use Rattle.laws.specs.Words.{true, false, List, [], _∷_, _++_, map, _≡_, ℕ, _^_, pos, negsuc}
 use Rattle.laws.specs.Lists.{many}
 use Rattle.frame.specs.declared.Message.{Message}
 use Rattle.frame.specs.Message.{msg, isTake, isReturn, stampOf}

@@ -1,10 +1,5 @@
 -- Demand 3 over records and bytes: posts that keep short records, and frames that travel as they were written.
-use mathlib.Core.Path.{_≡_}
-use mathlib.Core.Bool.{Bool, false, not, cond, _&&_}
-use mathlib.Core.List.{List, [], _∷_, _++_, map}
-use Prim.Native.Nat.{ℕ, _+_, _≤_, _<_}
-use lib.Dec.{T, ltb, eqb}
-use lib.ListN.{length, take, drop}
+use Rattle.laws.specs.Words.{Bool, false, not, cond, _&&_, List, [], _∷_, _++_, map, _≡_, ℕ, _+_, _≤_, _<_, T, ltb, eqb, length, take, drop}
 use Rattle.laws.specs.Below.{sumTo, countTo}
 use Rattle.frame.specs.Frame.{frame}
 use Rattle.queue.specs.Queue.{grants}

@@ -1,10 +1,5 @@
 -- Frames: their bytes, and what reading and writing one give.
-use Prim.Native.Nat.{ℕ}
-use mathlib.Core.Path.{_≡_}
-use mathlib.Core.List.{List, [], _∷_, _++_}
-use mathlib.Core.Bool.{not, cond}
-use lib.ListN.{length, getD, drop}
-use lib.Dec.{ltb, eqb}
+use Rattle.laws.specs.Words.{not, cond, List, [], _∷_, _++_, _≡_, ℕ, ltb, eqb, length, getD, drop}
 use Rattle.laws.specs.Big.{fieldsIn, fieldBytes}
 use Rattle.laws.specs.Ladder.{Row, _when_, refusal}
 use Rattle.frame.specs.declared.Message.{Message}

@@ -1,7 +1,5 @@
 -- A message: its kind and its stamp. All crates cite these.
-use Prim.Native.Nat.{ℕ, _+_, _*_}
-use mathlib.Core.Bool.{Bool, _&&_, _||_}
-use lib.Dec.{leb, eqb}
+use Rattle.laws.specs.Words.{Bool, _&&_, _||_, ℕ, _+_, _*_, leb, eqb}
 use Rattle.frame.specs.declared.Message.{Message}
 
 -- the message of kind k that post p sends with counter c
@@ -41,3 +39,10 @@ stamp m = stampOf (m .counter) (m .sender)
 -- sent by post p
 abbrev pub by : ℕ → Message → Bool
 by p m = eqb (m .sender) p
+
+-- a take, a return of post p
+abbrev pub ownTake : ℕ → Message → Bool
+ownTake p m = by p m && isTake m
+
+abbrev pub ownReturn : ℕ → Message → Bool
+ownReturn p m = by p m && isReturn m

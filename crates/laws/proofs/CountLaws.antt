@@ -1,7 +1,7 @@
 -- How many pass a test: of joined lists, of the parts of a list, and with one more put in its place. Assumes nothing.
 use mathlib.Core.Path.{_≡_, refl, sym, ap, _∙_}
 use mathlib.Core.Logic.{inl, inr}
-use mathlib.Core.Bool.{Bool, true}
+use mathlib.Core.Bool.{Bool, true, false, _&&_, _||_}
 use mathlib.Core.List.{List, [], _∷_, _++_}
 use Prim.Native.Nat.{ℕ, suc, _+_, _≤_, _<_}
 use native.Mathlib.Omega.{arith}
@@ -26,6 +26,24 @@ module _ {A : Type 0} where
   pub many-none : (f : A → Bool) (l : List A) → ((a : A) → In a l → T (f a) → ⊥) → many f l ≡ 0
   unfolding keep
   many-none f l h = ap length (keep-none f l (λ a m. not-T (f a) (h a m)))
+
+  -- those that pass f, where each passes g or h
+  pub many-split : (f g h : A → Bool) (l : List A) → ((a : A) → In a l → T (g a || h a)) → many f l ≤ many (λ a. f a && g a) l + many (λ a. f a && h a) l
+  unfolding keep
+  many-split f g h [] k = omega arith
+  many-split f g h (x ∷ xs) k =
+      let r = many-split f g h xs (λ a m. k a (inr m)) in
+      let a = many-cons f x xs in
+      let b = many-cons (λ y. f y && g y) x xs in
+      let c = many-cons (λ y. f y && h y) x xs in
+      let d = one (f x) (g x) (h x) (k x (inl refl)) in
+      omega arith
+    where
+      one : (x y z : Bool) → T (y || z) → one? x ≤ one? (x && y) + one? (x && z)
+      one true true z t = omega arith
+      one true false true t = omega arith
+      one true false false t = absurd t
+      one false y z t = omega arith
 
   -- where none pass, no member does; where some do, here is one
   pub none-passes : (f : A → Bool) (l : List A) → many f l ≡ 0 → (a : A) → In a l → T (f a) → ⊥

@@ -1,20 +1,20 @@
 -- What the calls give back, from what their parts give. Assumes nothing.
 use mathlib.Core.Path.{_≡_, refl, ap, _∙_, sym, subst}
 use mathlib.Core.Bool.{Bool, true, false, not, _&&_}
-use mathlib.Core.List.{List, _++_}
-use Prim.Native.Nat.{ℕ, _+_, _-_, _≤_}
+use mathlib.Core.List.{List}
+use Prim.Native.Nat.{ℕ, _-_, _≤_}
 use native.Mathlib.Omega.{arith}
 use borrow.Author.Tests.{eq-eqb, ne-eqb, le-ltb}
 use lib.Dec.{T, eqb}
 use lib.Ieee.Bits.{is-true}
-use lib.ListN.{length, drop, replicate}
+use lib.ListN.{length, replicate}
 use lib.Seq.{drop-at}
 use Rattle.laws.specs.Ladder.{Row, refusal}
 use Rattle.laws.specs.Lists.{put}
 use Rattle.laws.proofs.Ladders.{on, off, not-off, unrefused}
 use Rattle.laws.proofs.CountLaws.{length-put}
 use Rattle.frame.specs.declared.Message.{Message}
-use Rattle.frame.specs.Message.{blank, msg, known, counted, stamp}
+use Rattle.frame.specs.Message.{blank, known, counted, stamp}
 use Rattle.frame.specs.Frame.{over, messageRows, writeRows, writeNo, bytesAfter, Written}
 use Rattle.post.specs.declared.Post.{Post}
 use Rattle.post.specs.declared.Answer.{Answer}

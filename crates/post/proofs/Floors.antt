@@ -14,7 +14,6 @@ use Rattle.frame.specs.declared.Message.{Message}
 use Rattle.frame.specs.Message.{stampOf, stamp, counted}
 use Rattle.frame.specs.Frame.{fieldsOf}
 use Rattle.post.specs.declared.Post.{Post}
-use Rattle.post.specs.declared.Answer.{Answer}
 use Rattle.post.specs.Record.{lastOf, leastTo, floor, remade}
 use Rattle.post.specs.Settle.{settle}
 use Rattle.post.specs.Calls.{spoken, ackClock, came, noted, takeRows, returnRows, receiveRows, Outcome, unless, said, took, gaveBack, heardFrom, received}

@@ -1,8 +1,8 @@
 -- At most 58 messages wait: 4 of each of 14 others and 2 of its own, since the other post that stands lowest has none. Assumes nothing.
-use mathlib.Core.Path.{_≡_, refl, sym, ap, _∙_}
-use mathlib.Core.Logic.{inl, inr, ⊎-elim, by-cases}
-use mathlib.Core.Bool.{Bool, true, false, cond, _&&_, _||_, and-false}
-use mathlib.Core.List.{List, [], _∷_}
+use mathlib.Core.Path.{_≡_, sym, ap, _∙_}
+use mathlib.Core.Logic.{⊎-elim, by-cases}
+use mathlib.Core.Bool.{cond, and-false}
+use mathlib.Core.List.{List}
 use Prim.Native.Nat.{ℕ, _+_, _^_, _≤_, _<_}
 use native.Mathlib.Omega.{arith}
 use native.Mathlib.Decide.{ℕ-discrete}
@@ -10,49 +10,27 @@ use borrow.Author.Tests.{eq-eqb, ne-eqb, lt-leb}
 use lib.Dec.{T, eqb, eqb→eq}
 use lib.ListN.{length}
 use Rattle.laws.specs.Ladder.{refusal}
-use Rattle.laws.specs.Below.{one?}
-use Rattle.laws.specs.Lists.{In, keep, many, all}
+use Rattle.laws.specs.Lists.{many, all}
 use Rattle.laws.proofs.Tests.{cond-both, leb-total}
-use Rattle.laws.proofs.ListLaws.{many-cons}
-use Rattle.laws.proofs.CountLaws.{many-none, length-parts}
+use Rattle.laws.proofs.CountLaws.{many-none, many-split, length-parts}
 use Rattle.laws.proofs.RefusalLaws.{refusal-not}
 use Rattle.laws.proofs.SumLaws.{sumTo-point, sumTo-most}
-use Rattle.frame.specs.declared.Message.{Message}
 use Rattle.frame.specs.Message.{stampOf, isTake, isReturn, counted, by}
 use Rattle.frame.specs.Frame.{fieldsOf, formRows}
 use Rattle.frame.specs.Table.{senderTests, turnTests, receiveTests}
 use Rattle.post.specs.declared.Post.{Post}
-use Rattle.post.specs.declared.Answer.{Answer}
 use Rattle.post.specs.Record.{lastOf, waitingOf, leastTo, floor}
 use Rattle.post.specs.Sound.{sound}
 use Rattle.post.specs.Calls.{receiveRows, Outcome, unless, heardFrom, received}
 use Rattle.post.proofs.SoundFacts.{Sound, sound-has}
 use Rattle.post.proofs.Shape.{Shape, Width, length-waiting, last-width}
 use Rattle.post.proofs.Floors.{least-of, least-le}
-use Rattle.post.proofs.Standing.{ownTake, ownReturn, standing, own-most}
-
--- the own are takes and returns
-own-kinds : (own : ℕ) (ms : List Message) → ((m : Message) → In m ms → T (counted m)) → many (by own) ms ≤ many (ownTake own) ms + many (ownReturn own) ms
-unfolding keep
-own-kinds own [] h = omega arith
-own-kinds own (m ∷ ms) h =
-    let r = own-kinds own ms (λ x i. h x (inr i)) in
-    let a = many-cons (by own) m ms in
-    let b = many-cons (ownTake own) m ms in
-    let c = many-cons (ownReturn own) m ms in
-    let d = one (by own m) (isTake m) (isReturn m) (h m (inl refl)) in
-    omega arith
-  where
-    one : (x y z : Bool) → T (y || z) → one? x ≤ one? (x && y) + one? (x && z)
-    one true true z t = omega arith
-    one true false true t = omega arith
-    one true false false t = absurd t
-    one false y z t = omega arith
+use Rattle.post.proofs.Standing.{standing, own-most}
 
 module _ (p : Post) (s : Sound p) where
   pub own-two : many (by (p .own)) (waitingOf p) ≤ 2
   own-two =
-      let a = own-kinds (p .own) (waitingOf p) (λ m i. s .fair m i .kind) in
+      let a = many-split (by (p .own)) isTake isReturn (waitingOf p) (λ m i. s .fair m i .kind) in
       let b = own-most _ _ _ _ _ _ _ (standing p s) in
       omega arith
 

@@ -13,10 +13,9 @@ use Rattle.laws.specs.Lists.{In, keep, many, put}
 use Rattle.laws.proofs.Tests.{test, cond-both, and-l, and-r}
 use Rattle.laws.proofs.ListLaws.{many-cons}
 use Rattle.frame.specs.declared.Message.{Message}
-use Rattle.frame.specs.Message.{isTake, stamp, by}
+use Rattle.frame.specs.Message.{isTake, stamp, by, ownTake}
 use Rattle.post.specs.Settle.{ownNumber}
 use Rattle.post.specs.Sound.{endKind}
-use Rattle.post.proofs.Standing.{ownTake}
 
 -- ---- the number of the own take
 

@@ -1,6 +1,5 @@
 -- How the own messages, the order number and the counts stand in each phase: the two rules on them as four cases. Assumes nothing.
 use mathlib.Core.Path.{_≡_}
-use mathlib.Core.Bool.{Bool, _&&_}
 use mathlib.Core.List.{List}
 use Prim.Native.Nat.{ℕ, _+_, _≤_, _<_}
 use native.Mathlib.Omega.{arith}
@@ -9,17 +8,11 @@ use mir.Facts.{yes-and}
 use Rattle.laws.specs.Lists.{many}
 use Rattle.laws.proofs.Tests.{test, and-l, and-r, neqb→ne}
 use Rattle.frame.specs.declared.Message.{Message}
-use Rattle.frame.specs.Message.{isTake, isReturn, by}
+use Rattle.frame.specs.Message.{ownTake, ownReturn}
 use Rattle.post.specs.declared.Post.{Post}
 use Rattle.post.specs.Record.{waitingOf}
 use Rattle.post.specs.Sound.{endKind, ownFits, ownFew, orderFits}
 use Rattle.post.proofs.SoundFacts.{Sound}
-
-abbrev pub ownTake : ℕ → Message → Bool
-ownTake own m = by own m && isTake m
-
-abbrev pub ownReturn : ℕ → Message → Bool
-ownReturn own m = by own m && isReturn m
 
 -- phase, order number, settled takes, places with settled returns; of the own that wait, takes, returns and the last kind
 pub data Standing (phase order takes room t r end : ℕ) : Type 0 where

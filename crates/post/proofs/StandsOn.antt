@@ -12,10 +12,10 @@ use Rattle.laws.specs.Lists.{many}
 use Rattle.laws.proofs.Tests.{test, leb-total, and-l, neqb→ne}
 use Rattle.laws.proofs.CountLaws.{many-append, many-none, none-passes, some-passes}
 use Rattle.frame.specs.declared.Message.{Message}
-use Rattle.frame.specs.Message.{isTake, isReturn, by}
+use Rattle.frame.specs.Message.{isTake, isReturn, by, ownTake, ownReturn}
 use Rattle.post.specs.Settle.{ownNumber, phaseAfter}
 use Rattle.post.specs.Sound.{endKind}
-use Rattle.post.proofs.Standing.{ownTake, ownReturn, Standing, idle, asked, numbered, holding, Stands}
+use Rattle.post.proofs.Standing.{Standing, idle, asked, numbered, holding, Stands}
 use Rattle.post.proofs.OwnMessages.{ownNumber-none, ownNumber-some, ownNumber-most, endKind-append, endKind-which}
 
 -- a numbered take holds a place exactly where there is room

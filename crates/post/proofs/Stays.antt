@@ -15,7 +15,7 @@ use Rattle.laws.proofs.Tests.{cond-both, and-l}
 use Rattle.laws.proofs.RisingLaws.{keep-put-no}
 use Rattle.laws.proofs.CountLaws.{many-put}
 use Rattle.frame.specs.declared.Message.{Message}
-use Rattle.frame.specs.Message.{msg, lastCounter, stamp, isTake, isReturn, counted, by}
+use Rattle.frame.specs.Message.{msg, lastCounter, stamp, isTake, isReturn, counted, by, ownTake, ownReturn}
 use Rattle.frame.specs.Frame.{fieldsOf}
 use Rattle.post.specs.declared.Post.{Post}
 use Rattle.post.specs.Record.{waitingOf}
@@ -26,7 +26,7 @@ use Rattle.post.proofs.Shape.{Kept}
 use Rattle.post.proofs.SoundFacts.{Sound, sound-has}
 use Rattle.post.proofs.Above.{waiting-below}
 use Rattle.post.proofs.Accepted.{Spoken, take-speaks, return-speaks, Accepted, accepted}
-use Rattle.post.proofs.Standing.{ownTake, ownReturn, idle, asked, numbered, holding, Stands, standing}
+use Rattle.post.proofs.Standing.{idle, asked, numbered, holding, Stands, standing}
 use Rattle.post.proofs.OwnMessages.{endKind-put-other, endKind-put-last}
 use Rattle.post.proofs.Raised.{Raised, raised-none, raised-more}
 use Rattle.post.proofs.Remade.{kept-same, kept-put}

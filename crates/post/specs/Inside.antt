@@ -1,12 +1,8 @@
 -- What functions inside the crate promise each other, where a record says it best.
-use mathlib.Core.Path.{_≡_}
-use mathlib.Core.Bool.{Bool, true, _&&_}
-use mathlib.Core.List.{List}
-use Prim.Native.Nat.{ℕ, _+_, _-_, _≤_, _<_, _^_}
-use lib.ListN.{length, getD, drop, replicate}
+use Rattle.laws.specs.Words.{Bool, true, _&&_, List, _≡_, ℕ, _+_, _-_, _^_, _≤_, _<_, length, getD, drop, replicate}
 use Rattle.laws.specs.Lists.{all, many}
 use Rattle.frame.specs.declared.Message.{Message}
-use Rattle.frame.specs.Message.{blank, isTake, isReturn, by}
+use Rattle.frame.specs.Message.{blank, isTake, isReturn, by, ownTake, ownReturn}
 use Rattle.post.specs.declared.Post.{Post}
 use Rattle.post.specs.declared.slots.Seen.{Seen}
 use Rattle.post.specs.declared.slots.Gone.{Gone}
@@ -18,8 +14,8 @@ use Rattle.post.specs.Sound.{fair, rises, endKind}
 pub record Looked (posts own : ℕ) (last : List ℕ) (t : ℕ) (ms : List Message) (seen : Seen) : Type 0 where
   pub orderly : seen .orderly ≡ (all (fair posts last) ms && rises t ms)
   pub counts : seen .orderly ≡ true → (q : ℕ) → q < 16 → getD (seen .counts) q 0 ≡ many (by q) ms
-  pub takes : seen .orderly ≡ true → seen .takes ≡ many (λ m. by own m && isTake m) ms
-  pub returns : seen .orderly ≡ true → seen .returns ≡ many (λ m. by own m && isReturn m) ms
+  pub takes : seen .orderly ≡ true → seen .takes ≡ many (ownTake own) ms
+  pub returns : seen .orderly ≡ true → seen .returns ≡ many (ownReturn own) ms
   pub end : seen .orderly ≡ true → seen .end ≡ endKind own 0 ms
 
 -- a look over a record: whether its rules hold, and how many of each sender wait

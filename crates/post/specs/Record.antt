@@ -1,9 +1,5 @@
 -- The post's short record: what its fields say, how it starts, and the record with other messages waiting.
-use mathlib.Core.Bool.{cond}
-use mathlib.Core.List.{List, _++_}
-use Prim.Native.Nat.{ℕ, zero, suc, _-_, _^_, min}
-use lib.Dec.{eqb}
-use lib.ListN.{length, getD, take, replicate}
+use Rattle.laws.specs.Words.{cond, List, _++_, ℕ, zero, suc, _-_, _^_, min, eqb, length, getD, take, replicate}
 use Rattle.frame.specs.declared.Message.{Message}
 use Rattle.frame.specs.Message.{blank, stampOf}
 use Rattle.post.specs.declared.Post.{Post}

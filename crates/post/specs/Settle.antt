@@ -1,9 +1,5 @@
 -- What is settled leaves the slots in stamp order and is counted.
-use mathlib.Core.Bool.{cond}
-use mathlib.Core.List.{List, [], _∷_}
-use Prim.Native.Nat.{ℕ, _+_}
-use lib.Dec.{leb, ltb, eqb}
-use lib.ListN.{length, drop}
+use Rattle.laws.specs.Words.{cond, List, [], _∷_, ℕ, _+_, leb, ltb, eqb, length, drop}
 use Rattle.laws.specs.Lists.{many}
 use Rattle.frame.specs.declared.Message.{Message}
 use Rattle.frame.specs.Message.{isTake, isReturn, stamp, by}

@@ -1,14 +1,10 @@
 -- When a record is sound: document 01's rules, one definition each, in its order.
-use mathlib.Core.Bool.{Bool, true, not, cond, _&&_, _||_}
-use mathlib.Core.List.{List, [], _∷_}
-use Prim.Native.Nat.{ℕ, _+_}
-use lib.Dec.{leb, ltb, eqb}
-use lib.ListN.{getD, drop}
+use Rattle.laws.specs.Words.{Bool, true, not, cond, _&&_, _||_, List, [], _∷_, ℕ, _+_, leb, ltb, eqb, getD, drop}
 use Rattle.laws.specs.Ladder.{every}
 use Rattle.laws.specs.Lists.{all, many}
 use Rattle.laws.specs.Below.{allTo, sumTo}
 use Rattle.frame.specs.declared.Message.{Message}
-use Rattle.frame.specs.Message.{isTake, isReturn, counted, stamp, by}
+use Rattle.frame.specs.Message.{counted, stamp, by, ownTake, ownReturn}
 use Rattle.post.specs.declared.Post.{Post}
 use Rattle.post.specs.Record.{lastOf, waitingOf, floor}
 
@@ -60,7 +56,7 @@ ownFits phase takes returns end =
 unfoldable pub ownFew : Post → Bool
 ownFew p =
     let ms = waitingOf p in
-    ownFits (p .phase) (many (λ m. by (p .own) m && isTake m) ms) (many (λ m. by (p .own) m && isReturn m) ms) (endKind (p .own) 0 ms)
+    ownFits (p .phase) (many (ownTake (p .own)) ms) (many (ownReturn (p .own)) ms) (endKind (p .own) 0 ms)
 
 -- settled takes + settled returns + waiting messages are at most the sum of the last counters
 unfoldable pub sumFits : Post → Bool

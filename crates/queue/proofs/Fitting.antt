@@ -12,7 +12,7 @@ use Rattle.laws.proofs.BelowLaws.{one-eqb}
 use Rattle.laws.proofs.CountLaws.{many-none, many-put}
 use Rattle.laws.proofs.Counting.{one-most, one-no, many-keep}
 use Rattle.frame.specs.declared.Message.{Message}
-use Rattle.frame.specs.Message.{msg, isReturn, counted, known, lastCounter, stamp, by}
+use Rattle.frame.specs.Message.{msg, isReturn, counted, known, lastCounter, stamp, by, ownReturn}
 use Rattle.frame.specs.Frame.{fieldsOf}
 use Rattle.queue.specs.Queue.{Start, Queue, clock, heard, waiting, latest}
 use Rattle.queue.specs.Replies.{Call, take-call, return-call, receive-call, value-call, missing-call}
@@ -22,7 +22,7 @@ use Rattle.queue.proofs.Changes.{Change, unchanged, took, gave-back, ac
 use Rattle.queue.proofs.Granted.{grants-in, holding-latest}
 use Rattle.queue.proofs.Marks.{holds}
 use Rattle.queue.proofs.Holding.{Kept, kept-change, kept-empty}
-use Rattle.queue.proofs.Waiting.{ownReturn, none-waits}
+use Rattle.queue.proofs.Waiting.{none-waits}
 use Rattle.queue.proofs.Settling.{Between, waits-on, between-say, arrived, between-accept}
 use Rattle.queue.proofs.Clocks.{clock-say, clock-accept}
 

@@ -13,8 +13,7 @@ use Rattle.laws.specs.Lists.{keep, many, final, put}
 use Rattle.laws.proofs.Tests.{and-l, and-r}
 use Rattle.laws.proofs.BelowLaws.{sumTo-cong, sumTo-add}
 use Rattle.laws.proofs.ListLaws.{in-cast, keep-keep}
-use Rattle.frame.specs.declared.Message.{Message}
-use Rattle.frame.specs.Message.{isReturn, stamp, by}
+use Rattle.frame.specs.Message.{isReturn, stamp, by, ownReturn}
 use Rattle.frame.specs.Frame.{fieldsOf}
 use Rattle.queue.specs.Queue.{Start, Queue, settled, grants, latest, phase}
 use Rattle.queue.specs.Replies.{Call, receive-call}
@@ -28,11 +27,8 @@ use Rattle.queue.proofs.Granted.{take-cast, grants-in, grants-grow, hol
 use Rattle.queue.proofs.Marks.{Paid, holds, markList, step, paid-step, grants-step}
 
 -- the returns of the post itself
-abbrev ownReturn : Start → Message → Bool
-ownReturn st m = by (st .own) m && isReturn m
-
 abbrev pub Balanced : Start → Queue → Type 0
-Balanced st q = length (grants st q) ≡ many (ownReturn st) q + one? (holds st q)
+Balanced st q = length (grants st q) ≡ many (ownReturn (st .own)) q + one? (holds st q)
 
 one-more : (a b : Bool) → (T a → T b) → one? b ≡ one? a + one? (not a && b)
 one-more true true h = refl
@@ -47,9 +43,9 @@ one-back false b t h = absurd t
 
 -- returns and holding grow by the mark of the call
 abbrev Turned : Start → Queue → Queue → Type 0
-Turned st q q′ = many (ownReturn st) q′ + one? (holds st q′) ≡ many (ownReturn st) q + one? (holds st q) + one? (grantCame st q q′)
+Turned st q q′ = many (ownReturn (st .own)) q′ + one? (holds st q′) ≡ many (ownReturn (st .own)) q + one? (holds st q) + one? (grantCame st q q′)
 
-no-return : (st : Start) (q q′ : Queue) → keep (ownReturn st) q′ ≡ keep (ownReturn st) q → (T (holds st q) → T (holds st q′)) → Turned st q q′
+no-return : (st : Start) (q q′ : Queue) → keep (ownReturn (st .own)) q′ ≡ keep (ownReturn (st .own)) q → (T (holds st q) → T (holds st q′)) → Turned st q q′
 unfolding grantCame
 no-return st q q′ e h = let a = ap length e in let b = one-more (holds st q) (holds st q′) h in omega arith
 
@@ -58,12 +54,12 @@ unfolding saying grantCame
 turned st c q q′ g unchanged = no-return st q q refl (λ z. z)
 turned st c q q′ g (took z l) =
     let t = saying st 1 q in
-    no-return st q q′ (keep-say-no st q (ownReturn st) 1 (not-T (ownReturn st t) (and-r (by (st .own) t) (isReturn t))))
+    no-return st q q′ (keep-say-no st q (ownReturn (st .own)) 1 (not-T (ownReturn (st .own) t) (and-r (by (st .own) t) (isReturn t))))
     (λ y. absurd (let a = eqb→eq (phase st q) 0 z in let b = eqb→eq (phase st q) 3 y in omega arith))
 turned st c q q′ g (gave-back z l) =
     let t = saying st 2 q in
-    let k = ap length (keep-say-last st q (ownReturn st) (g .sorted) 2 (yes-and (by (st .own) t) (isReturn t) (eqb-refl (st .own)) tt)) in
-    let a = length-append (keep (ownReturn st) q) (t ∷ []) in
+    let k = ap length (keep-say-last st q (ownReturn (st .own)) (g .sorted) 2 (yes-and (by (st .own) t) (isReturn t) (eqb-refl (st .own)) tt)) in
+    let a = length-append (keep (ownReturn (st .own)) q) (t ∷ []) in
     let e = latest-said st q (g .sorted) 2 tt in
     let b = one-back (holds st q) (holds st q′) z (λ y. take-cast e (grants-in st q′ (latest st q′) (holding-latest st q′ y) .take)) in
     omega arith
@@ -72,9 +68,9 @@ turned st c q q′ g (accepted {s = s} {lent = lent} w) =
     let a = saying st 3 (put stamp m q) in
     let l = later st q (g .sorted) (receive-call s lent) q′ (accepted w) in
     no-return st q q′
-    (keep-accept-no st q (ownReturn st) m
-    (not-T (ownReturn st m) (λ y. w .other (eqb→eq (m .sender) (st .own) (and-l (by (st .own) m) _ y))))
-    (not-T (ownReturn st a) (and-r (by (st .own) a) (isReturn a))))
+    (keep-accept-no st q (ownReturn (st .own)) m
+    (not-T (ownReturn (st .own) m) (λ y. w .other (eqb→eq (m .sender) (st .own) (and-l (by (st .own) m) _ y))))
+    (not-T (ownReturn (st .own) a) (and-r (by (st .own) a) (isReturn a))))
     (λ y.
     latest-holding st q′ (in-cast (grants st q′) (sym (latest-accepted st q m (w .other)))
     (grants-grow st q q′ l (latest st q) (holding-latest st q y))))

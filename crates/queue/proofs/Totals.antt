@@ -14,14 +14,14 @@ use Rattle.laws.proofs.BelowLaws.{sumTo-le}
 use Rattle.laws.proofs.ListLaws.{keep-in, keep-keep, many-cons, parts}
 use Rattle.laws.proofs.RisingLaws.{rising-keep}
 use Rattle.laws.proofs.ScanLaws.{many-length}
-use Rattle.laws.proofs.CountLaws.{many-none}
+use Rattle.laws.proofs.CountLaws.{many-none, many-split}
 use Rattle.laws.proofs.Counting.{many-all, many-one}
 use Rattle.laws.proofs.SumBounds.{sumTo-grows, sumTo-fours-but}
 use Rattle.frame.specs.declared.Message.{Message}
-use Rattle.frame.specs.Message.{isTake, isReturn, counted, stamp, by}
+use Rattle.frame.specs.Message.{isTake, isReturn, counted, stamp, by, ownTake}
 use Rattle.queue.specs.Queue.{Start, Queue, last, heard, settled, waiting, latest}
 use Rattle.queue.proofs.Good.{Sorted}
-use Rattle.queue.proofs.Waiting.{waiting-in, waiting-rising, ownTake, ownReturn, waits-latest, no-take-waits, latest-waits, none-waits}
+use Rattle.queue.proofs.Waiting.{waiting-in, waiting-rising, waits-latest, no-take-waits, latest-waits, none-waits}
 use Rattle.queue.proofs.Granted.{latest-in}
 use Rattle.queue.proofs.Fitting.{Fitting}
 use mir.Facts.{yes-and}
@@ -98,23 +98,6 @@ total-fits st q g =
 
 -- ---- what waits, by sender
 
-kind-split : (a b c : Bool) → T (b || c) → one? a ≤ one? (a && b) + one? (a && c)
-kind-split true true c t = omega arith
-kind-split true false true t = omega arith
-kind-split true false false t = absurd t
-kind-split false b c t = omega arith
-
-own-split : (own : ℕ) (l : List Message) → ((m : Message) → In m l → T (counted m)) → many (by own) l ≤ many (ownTake own) l + many (ownReturn own) l
-unfolding keep
-own-split own [] h = omega arith
-own-split own (x ∷ xs) h =
-    let r = own-split own xs (λ m i. h m (inr i)) in
-    let a = many-cons (by own) x xs in
-    let b = many-cons (ownTake own) x xs in
-    let c = many-cons (ownReturn own) x xs in
-    let d = kind-split (by own x) (isTake x) (isReturn x) (h x (inl refl)) in
-    omega arith
-
 module _ (st : Start) (q : Queue) (k : Fitting st q) where
   abbrev g : Sorted st q
   g = k .kept .good .sorted
@@ -137,7 +120,7 @@ module _ (st : Start) (q : Queue) (k : Fitting st q) where
 
   own-two : many (by (st .own)) (waiting st q) ≤ 2
   own-two =
-      let s = own-split (st .own) (waiting st q) (λ m i. waiting-in st q m i .1) in
+      let s = many-split (by (st .own)) isTake isReturn (waiting st q) (λ m i. waiting-in st q m i .1) in
       let b = k .own in
       test (isTake (latest st q))
       (λ t.

@@ -1,8 +1,7 @@
 -- What waits in a queue, and what of the post itself waits with its latest take. Assumes nothing.
 use mathlib.Core.Path.{_≡_}
 use mathlib.Core.Logic.{_⊎_, inl, inr, ⊎-elim}
-use mathlib.Core.Bool.{Bool, not, _&&_}
-use Prim.Native.Nat.{ℕ}
+use mathlib.Core.Bool.{not}
 use native.Mathlib.Omega.{arith}
 use lib.Dec.{T, T-not}
 use mir.Facts.{yes-and}
@@ -11,7 +10,7 @@ use Rattle.laws.proofs.Tests.{test, and-l, and-r, or-l}
 use Rattle.laws.proofs.ListLaws.{in-keep, keep-in}
 use Rattle.laws.proofs.RisingLaws.{rising-keep}
 use Rattle.frame.specs.declared.Message.{Message}
-use Rattle.frame.specs.Message.{isTake, isReturn, counted, stamp, by}
+use Rattle.frame.specs.Message.{isTake, counted, stamp, by, ownTake}
 use Rattle.queue.specs.Queue.{Start, Queue, heard, settled, waiting, latest}
 use Rattle.queue.proofs.Heard.{heard-at, at-heard, settled-in, in-settled}
 use Rattle.queue.proofs.Granted.{take-cast, grants-in, latest-most, latest-in}
@@ -40,12 +39,6 @@ module _ (st : Start) (q : Queue) where
   not-both m i j = T-not (heard st q m) (waiting-in m i .2) (settled-in st q m j .2)
 
 -- the own takes and returns
-abbrev pub ownTake : ℕ → Message → Bool
-ownTake own m = by own m && isTake m
-
-abbrev pub ownReturn : ℕ → Message → Bool
-ownReturn own m = by own m && isReturn m
-
 module _ (st : Start) (q : Queue) (r : Rising stamp q) (p : Paid st q) where
   -- an own take that waits is the latest
   pub waits-latest : (m : Message) → In m (waiting st q) → T (ownTake (st .own) m) → m ≡ latest st q

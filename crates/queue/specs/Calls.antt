@@ -1,5 +1,5 @@
 -- The calls over the full queue, with frames and lent buffers as bytes.
-use Rattle.laws.specs.Words.{Bool, true, not, cond, _&&_, List, [], ℕ, suc, eqb, length}
+use Rattle.laws.specs.Words.{Bool, true, not, cond, _&&_, List, ℕ, suc, eqb, length}
 use Rattle.laws.specs.Ladder.{Row, refusal}
 use Rattle.laws.specs.Lists.{many, put}
 use Rattle.laws.specs.Below.{countTo, bitsTo}

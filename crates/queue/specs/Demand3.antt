@@ -1,9 +1,5 @@
 -- Demand 3 over full queues: what is stated. `proofs/Demand3` proves it.
-use mathlib.Core.Path.{_≡_}
-use mathlib.Core.Logic.{_⊎_, _↔_}
-use mathlib.Core.Bool.{Bool, false, cond}
-use mathlib.Core.List.{List, [], _∷_, _++_}
-use Prim.Native.Nat.{ℕ, _+_, _≤_, _<_}
+use Rattle.laws.specs.Words.{Bool, false, cond, List, [], _∷_, _++_, _≡_, _⊎_, _↔_, ℕ, _+_, _≤_, _<_}
 use Rattle.laws.specs.Lists.{In, keep, Begins}
 use Rattle.frame.specs.declared.Message.{Message}
 use Rattle.frame.specs.Message.{counted}

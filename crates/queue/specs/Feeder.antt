@@ -1,9 +1,5 @@
 -- A feeder: posts 0 to N - 1, each by its full queue, and runs of takes, returns and deliveries.
-use mathlib.Core.Bool.{not, cond, _&&_}
-use mathlib.Core.List.{List, [], _∷_}
-use Prim.Native.Nat.{ℕ}
-use lib.Dec.{ltb, eqb}
-use lib.ListN.{length, drop, replicate}
+use Rattle.laws.specs.Words.{not, cond, _&&_, List, [], _∷_, ℕ, ltb, eqb, length, drop, replicate}
 use Rattle.laws.specs.Lists.{keep, many}
 use Rattle.laws.specs.Below.{sumTo, countTo}
 use Rattle.frame.specs.declared.Message.{Message}
