@@ -8,7 +8,8 @@ use crate::lines::{self, Command, LONGEST_HEADER};
 use crate::queue::{Done, Phase};
 use crate::refusal::{number, Refusal};
 
-const MOST_LINES: u32 = 256;
+/// Commands that the bench reads; the line after them stops it.
+pub const MOST_LINES: u32 = 256;
 
 /// Runs one night. Fails only where reading or writing fails.
 pub fn run(input: impl BufRead, mut output: impl Write) -> io::Result<()> {

@@ -7,8 +7,9 @@ pub mod message;
 pub mod queue;
 pub mod refusal;
 
-// The bench.
+// The bench, and pictures of its nights.
 pub mod bench;
+pub mod draw;
 pub mod feeder;
 pub mod lines;
 

@@ -14,6 +14,15 @@ pub enum Command {
     Deliver(u8, u8),
 }
 
+impl Command {
+    /// The post that is called; for a delivery, the one that the message is offered to.
+    pub fn post(&self) -> u8 {
+        match *self {
+            Command::Take(p) | Command::Return(p) | Command::Deliver(_, p) => p,
+        }
+    }
+}
+
 impl fmt::Display for Command {
     fn fmt(&self, f: &mut fmt::Formatter) -> fmt::Result {
         match self {
