@@ -1,11 +1,13 @@
 /* step PROGRAM WORDS..: how many instructions an x86-64 program executes once it has first read its
    standard input, to its end. What the program writes is thrown away. The processor's single steps are
-   counted, by ptrace: no package is needed, and the counts repeat exactly. A string instruction counts
-   once for each item it moves. */
+   counted, by ptrace: no package is needed. Addresses are the same in every run where the system allows
+   it, since a copy's steps depend a little on them, and the counts then repeat exactly. A string
+   instruction counts once for each item it moves. */
 #include <errno.h>
 #include <stdio.h>
 #include <stdlib.h>
 #include <string.h>
+#include <sys/personality.h>
 #include <sys/ptrace.h>
 #include <sys/syscall.h>
 #include <sys/user.h>
@@ -26,6 +28,7 @@ int main(int argc, char **argv)
     if (child < 0)
         die("fork");
     if (child == 0) {
+        personality(ADDR_NO_RANDOMIZE);
         if (!freopen("/dev/null", "w", stdout))
             die("/dev/null");
         if (ptrace(PTRACE_TRACEME, 0, NULL, NULL) != 0)
