@@ -190,18 +190,56 @@ static const struct message *next_of(struct feeder *f, uint8_t p, uint8_t q)
     return i < f->count ? &f->sent[i] : NULL;
 }
 
-/* The record's bytes with a fault in one or two places. */
-static void spoil(uint8_t record[RECORD], uint8_t waits)
+static void spoil_byte(uint8_t record[RECORD], uint8_t waits)
 {
-    for (uint32_t n = 1 + below(2); n > 0; n--) {
-        uint32_t at = below(3) == 0 ? below(73) : below(2) == 0 ? 445 + below(25) : 73 + below(6u * waits + 6);
-        switch (below(4)) {
-        case 0: record[at] = (uint8_t)(record[at] + 1); break;
-        case 1: record[at] = (uint8_t)(record[at] - 1); break;
-        case 2: record[at] = 0; break;
-        default: record[at] = (uint8_t)below(256);
-        }
+    uint32_t at = below(3) == 0 ? below(73) : below(2) == 0 ? 445 + below(25) : 73 + below(6u * waits + 6);
+    switch (below(4)) {
+    case 0: record[at] = (uint8_t)(record[at] + 1); break;
+    case 1: record[at] = (uint8_t)(record[at] - 1); break;
+    case 2: record[at] = 0; break;
+    default: record[at] = (uint8_t)below(256);
     }
+}
+
+/* A change to where one of the rules of a sound record begins or ends to hold. */
+static struct post at_an_edge(struct post p)
+{
+    struct message *m = &p.slots[below(p.waits + 1u) % SLOTS];
+    uint64_t most = 0;
+    for (int q = 0; q < POSTS; q++)
+        most += p.last[q];
+    switch (below(10)) {
+    case 0: p.phase = (uint8_t)below(5); break;
+    case 1: /* nothing waits, and the order number is near its bounds */
+        memset(p.slots, 0, sizeof p.slots);
+        p.waits = 0;
+        for (int q = 0; q < p.posts; q++)
+            p.last[q] = p.clock;
+        p.places = (uint8_t)(1 + below(3));
+        p.phase = (uint8_t)(2 + below(2));
+        p.takes = below(5);
+        p.returns = below(4);
+        p.order = below(7);
+        break;
+    case 2: /* up to three own messages more */
+        p.phase = (uint8_t)below(4);
+        for (uint32_t n = below(4); n > 0 && p.waits < SLOTS && p.clock < UINT32_MAX; n--) {
+            p.clock++;
+            p.last[p.own] = p.clock;
+            p.slots[p.waits++] = (struct message){ (uint8_t)(1 + below(2)), p.own, p.clock };
+        }
+        break;
+    case 3: p.takes = most - p.returns - p.waits + below(2); break;
+    case 4: p.returns = most - p.takes - p.waits + below(2); break;
+    case 5: p.last[below(POSTS)] = p.clock + below(2); break;
+    case 6: m->counter = p.last[m->sender % POSTS] + below(2); break;
+    case 7: m->kind = (uint8_t)below(4); break;
+    case 8: m->sender = (uint8_t)below(p.posts + 1u); break;
+    default:
+        if (p.waits > 1)
+            p.slots[p.waits - 1] = p.slots[p.waits - 2];
+    }
+    return p;
 }
 
 static void spoil_frame(uint8_t frame[LENT], uint8_t *len)
@@ -238,8 +276,12 @@ static void write_random(long n)
         if (below(8) == 0)
             size = (uint8_t)below(LENT + 1);
         block_of(block, call, 1, frame, len, size, r);
-        if (below(6) == 0)
-            spoil(block + 4 + LENT, r->waits);
+        if (below(6) == 0) {
+            struct post edge = at_an_edge(*r);
+            put_post(block + 4 + LENT, &edge);
+        }
+        if (below(12) == 0)
+            spoil_byte(block + 4 + LENT, r->waits);
         if (fwrite(block, 1, BLOCK, stdout) != BLOCK)
             exit(1);
 
