@@ -270,7 +270,7 @@ static void write_random(long n)
         if (m)
             frame_of(frame, feeder, m->kind, m->sender, m->counter);
         else
-            frame_of(frame, feeder, (uint8_t)(1 + below(3)), p, r->last[p] + below(3));
+            frame_of(frame, feeder, (uint8_t)(1 + below(3)), p, below(9) == 0 ? UINT32_MAX - below(2) : r->last[p] + below(3));
         if (below(8) == 0)
             spoil_frame(frame, &len);
         if (below(8) == 0)
