@@ -2,25 +2,25 @@
 use mathlib.Core.Path.{_≡_, refl, ap, _∙_, sym, subst}
 use mathlib.Core.Bool.{Bool, true, false, not, _&&_}
 use mathlib.Core.List.{List}
-use Prim.Native.Nat.{ℕ, _-_, _≤_}
+use Prim.Native.Nat.{ℕ, _+_, _-_, _≤_}
 use native.Mathlib.Omega.{arith}
 use borrow.Author.Tests.{eq-eqb, ne-eqb, le-ltb}
 use lib.Dec.{T, eqb}
 use lib.Ieee.Bits.{is-true}
 use lib.ListN.{length, replicate}
-use lib.Seq.{drop-at}
+use lib.Seq.{drop-at, set-set}
 use Rattle.laws.specs.Ladder.{Row, refusal}
 use Rattle.laws.specs.Lists.{put}
 use Rattle.laws.proofs.Ladders.{on, off, not-off, unrefused}
 use Rattle.laws.proofs.CountLaws.{length-put}
 use Rattle.frame.specs.declared.Message.{Message}
-use Rattle.frame.specs.Message.{blank, known, counted, stamp}
+use Rattle.frame.specs.Message.{blank, msg, known, counted, stamp}
 use Rattle.frame.specs.Frame.{over, messageRows, writeRows, writeNo, bytesAfter, Written}
 use Rattle.post.specs.declared.Post.{Post}
 use Rattle.post.specs.declared.Answer.{Answer}
 use Rattle.post.specs.Record.{waitingOf, remade}
 use Rattle.post.specs.Settle.{settle}
-use Rattle.post.specs.Calls.{spoken, came, noted, Outcome, Gives, answer, refused, unless, acknowledged, heardFrom}
+use Rattle.post.specs.Calls.{spoken, joined, noted, Outcome, Gives, answer, refused, unless, writing, acknowledged, heardFrom}
 use Rattle.post.specs.Inside.{Countable}
 use Rattle.post.proofs.SoundFacts.{sound-has}
 use Rattle.post.proofs.Shape.{Kept, length-waiting}
@@ -50,13 +50,9 @@ module _ (p : Post) (k : Kept p) where
       let h = has-room p k in
       omega arith
 
-  pub spoken-countable : (kind phase : ℕ) → Countable (spoken p kind phase)
-  unfolding spoken
-  spoken-countable kind phase = remade-countable _ _ _ _ _ (length-with _)
-
-  pub came-countable : (m : Message) → Countable (came p m)
-  unfolding came
-  came-countable m = remade-countable _ _ _ _ _ (length-with m)
+  pub joined-countable : (m : Message) (c phase order : ℕ) → Countable (joined p m c phase order)
+  unfolding joined
+  joined-countable m c phase order = remade-countable _ _ _ _ _ (length-with m)
 
   pub noted-countable : (m : Message) → Countable (noted p m)
   unfolding noted
@@ -90,6 +86,19 @@ module _ (p : Post) (rows : List Row) {n : ℕ} (e : n ≡ refusal rows) (lent :
   pub is-done : n ≡ 0 → {r : Answer} {new : List ℕ} → Gives o r new → Gives (unless p lent rows o) r new
   unfolding unless
   is-done z = among (on _ _ _ (eq-eqb (refusal rows) 0 (sym e ∙ z)) refl)
+
+-- the message goes out once the record is settled
+pub writes : (p p′ : Post) (m : Message) {next : Post} {r : Answer} {old new : List ℕ} {n : ℕ} → next ≡ p′ → r ≡ answer (p .phase) (settle next) true
+    → Written old new (p .feeder) m n → T (known (m .kind)) → m .sender ≤ 15 → 1 ≤ m .counter → 12 ≤ length old → Gives (writing p p′ m old) r new
+writes p p′ m e a w kind sender counter room = record {
+  gives = a ∙ ap (λ (x : Post). answer (p .phase) (settle x) true) e;
+  leaves = is-written _ _ _ _ _ w kind sender counter room;
+}
+
+-- an own message that has joined is spoken
+pub joined-own : (p : Post) (kind phase : ℕ) → joined p (msg kind (p .own) (p .clock + 1)) (p .clock + 1) phase 0 ≡ spoken p kind phase
+unfolding joined spoken
+joined-own p kind phase = ap (λ (l : List ℕ). remade p (p .clock + 1) l (put stamp (msg kind (p .own) (p .clock + 1)) (waitingOf p)) phase 0) (set-set (p .last) (p .own) (p .clock + 1) (p .clock + 1))
 
 module _ (p : Post) (m : Message) (lent : List ℕ) where
   pub is-heard : counted m ≡ true → {r : Answer} {new : List ℕ} → Gives (acknowledged p m lent) r new → Gives (heardFrom p m lent) r new

@@ -25,6 +25,11 @@ use Rattle.post.proofs.Most.{most}
 pub length-mapped : (X Y : Type 0) (f : X → Y) (l : List X) (n : ℕ) → length (map f l) ≡ n → length l ≡ n
 length-mapped X Y f l n e = sym (length-map l f) ∙ e
 
+-- the record with other slots
+abbrev pub with-slots : Post → List Message → Post
+with-slots p slots =
+    made (p .posts) (p .own) (p .feeder) (p .places) (p .clock) (p .last) (p .waits) slots (p .takes) (p .returns) (p .phase) (p .order)
+
 module _ (p : Post) (k : Kept p) where
   facts : Sound p
   facts = sound-has p (k .sound)

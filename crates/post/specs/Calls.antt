@@ -32,15 +32,18 @@ spoken p kind phase =
     let c = p .clock + 1 in
     remade p c (set (p .last) (p .own) c) (put stamp (msg kind (p .own) c) (waitingOf p)) phase 0
 
+-- with a message among the waiting and c sent, which is the clock then
+unfoldable pub joined : Post → Message → ℕ → ℕ → ℕ → Post
+joined p m c phase order = remade p c (set (set (p .last) (m .sender) (m .counter)) (p .own) c) (put stamp m (waitingOf p)) phase order
+
 -- the clock of the acknowledgment of m
 abbrev pub ackClock : Post → Message → ℕ
 ackClock p m = max (p .clock) (m .counter) + 1
 
 -- with a take or return received, and the acknowledgment sent for it
 unfoldable pub came : Post → Message → Post
-came p m =
-    let c = ackClock p m in
-    remade p c (set (set (p .last) (m .sender) (m .counter)) (p .own) c) (put stamp m (waitingOf p)) (p .phase) (p .order)
+unfolding joined
+came p m = joined p m (ackClock p m) (p .phase) (p .order)
 
 -- with an acknowledgment received
 unfoldable pub noted : Post → Message → Post

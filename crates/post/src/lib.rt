@@ -18,7 +18,7 @@ ghost use Rattle.post.specs.Record.{lastOf, fresh};
 ghost use Rattle.post.specs.Sound.{inRange, numberRules, slotRules, countRules, sound};
 ghost use Rattle.post.specs.Settle.{phaseAfter, settle};
 ghost use Rattle.post.specs.Inside.{Countable, Checked};
-ghost use Rattle.post.specs.Calls.{started, spoken, came, noted, receiveRows, Gives, answer, refused, said, took, gaveBack, acknowledged, received, valued, missed};
+ghost use Rattle.post.specs.Calls.{started, joined, noted, receiveRows, Gives, answer, refused, writing, said, took, gaveBack, acknowledged, received, valued, missed};
 
 // Document 01's record, its fields in 01's order and widths.
 pub struct Post {
@@ -249,48 +249,31 @@ impl Post {
         seen.orderly
     }
 
-    // The record with an own take or return, before anything is settled.
-    fn spoken(mut self, kind: u8, phase: u8) -> Self
-        requires { ⌜ T (sound self) × (self .clock < lastCounter) ⌝ }
-        ensures { λ r. ⌜ r ≡ spoken self kind phase ⌝ }
+    // The record with the message m among the waiting, its sender's last counter set, and the clock c sent: from the newest down, those above m move one place up.
+    fn joined(mut self, m: Message, c: u32, phase: u8, order: u64) -> Self
+        requires { ⌜ T (sound self) × (m .sender < self .posts) ⌝ }
+        ensures { λ r. ⌜ r ≡ joined self m c phase order ⌝ }
     {
-        let own = self.own;
         let waits = self.waits;
-        let slots = self.slots;
-        let c = self.clock + 1;
-        let m = Message {
-            kind,
-            sender: own,
-            counter: c,
-        };
-        let next = slots::insert(slots, waits as usize, m);
-        let at = own as usize;
-        self.last[at] = c;
-        self.clock = c;
-        self.waits = waits + 1;
-        self.slots = next;
-        self.phase = phase;
-        self.order = 0;
-        self
-    }
-
-    // The record with a take or return received and the acknowledgment sent for it.
-    fn came(mut self, m: Message) -> Self
-        requires { ⌜ T (sound self) × (m .sender < self .posts) × (max (self .clock) (m .counter) < lastCounter) ⌝ }
-        ensures { λ r. ⌜ r ≡ came self m ⌝ }
-    {
-        let own = self.own;
-        let waits = self.waits;
-        let slots = self.slots;
-        let c = larger(self.clock, m.counter) + 1;
-        let next = slots::insert(slots, waits as usize, m);
         let from = m.sender as usize;
-        let at = own as usize;
+        let at = self.own as usize;
+        let t = stamp(m.counter, m.sender);
+        let mut i = waits as usize;
+        while 0 < i {
+            let old = self.slots[i - 1];
+            if stamp(old.counter, old.sender) <= t {
+                break;
+            }
+            self.slots[i] = old;
+            i -= 1;
+        }
+        self.slots[i] = m;
         self.last[from] = m.counter;
         self.last[at] = c;
         self.clock = c;
         self.waits = waits + 1;
-        self.slots = next;
+        self.phase = phase;
+        self.order = order;
         self
     }
 
@@ -441,20 +424,6 @@ impl Post {
         }
     }
 
-    // Sends an own take or return.
-    fn say(self, kind: u8, phase: u8, buf: &mut [u8]) -> Answer
-        requires { ⌜ T (sound self) × (self .clock < lastCounter) × T (known kind) × (12 ≤ length (now buf)) ⌝ }
-        ensures { λ r. ⌜ Gives (said self kind phase (now (buf .entry))) r (now (buf .exit)) ⌝ }
-    {
-        let m = Message {
-            kind,
-            sender: self.own,
-            counter: self.clock + 1,
-        };
-        frame::write(buf, self.feeder, m);
-        self.spoken(kind, phase).settled(self.phase, true)
-    }
-
     // A truck is plugged in.
     pub fn take(self, buf: &mut [u8]) -> Answer
         ensures { λ r. ⌜ Gives (took self (now (buf .entry))) r (now (buf .exit)) ⌝ }
@@ -463,7 +432,15 @@ impl Post {
         if number != 0 {
             return self.refused(number);
         }
-        self.say(1, 1, buf)
+        let m = Message {
+            kind: 1,
+            sender: self.own,
+            counter: self.clock + 1,
+        };
+        let feeder = self.feeder;
+        let answer = self.joined(m, m.counter, 1, 0).settled(self.phase, true);
+        frame::write(buf, feeder, m);
+        answer
     }
 
     // The truck is full.
@@ -474,7 +451,15 @@ impl Post {
         if number != 0 {
             return self.refused(number);
         }
-        self.say(2, 0, buf)
+        let m = Message {
+            kind: 2,
+            sender: self.own,
+            counter: self.clock + 1,
+        };
+        let feeder = self.feeder;
+        let answer = self.joined(m, m.counter, 0, 0).settled(self.phase, true);
+        frame::write(buf, feeder, m);
+        answer
     }
 
     // Takes in a take or return, and acknowledges it.
@@ -487,8 +472,11 @@ impl Post {
             sender: self.own,
             counter: larger(self.clock, m.counter) + 1,
         };
-        frame::write(buf, self.feeder, ack);
-        self.came(m).settled(self.phase, true)
+        let feeder = self.feeder;
+        let answer = self.joined(m, ack.counter, self.phase, self.order)
+            .settled(self.phase, true);
+        frame::write(buf, feeder, ack);
+        answer
     }
 
     // A frame has arrived.

@@ -162,26 +162,6 @@ pub(crate) fn blank_from(slots: [Message; 62], n: usize) -> bool
     true
 }
 
-// The message m among the first n, whose stamps rise: from the newest down, those above it move one place up.
-pub(crate) fn insert(slots: [Message; 62], n: usize, m: Message) -> [Message; 62]
-    requires { ⌜ (n < 62) × Rising stamp (take n slots) ⌝ }
-    ensures { λ r. ⌜ r ≡ put stamp m (take n slots) ++ drop (n + 1) slots ⌝ }
-{
-    let t = stamp(m.counter, m.sender);
-    let mut next = slots;
-    let mut i = n;
-    while 0 < i {
-        let old = next[i - 1];
-        if stamp(old.counter, old.sender) <= t {
-            break;
-        }
-        next[i] = old;
-        i -= 1;
-    }
-    next[i] = m;
-    next
-}
-
 // What of the first n is settled: how many, and the counts with it.
 pub(crate) struct Gone {
     pub count: usize,
