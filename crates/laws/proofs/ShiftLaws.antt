@@ -2,14 +2,17 @@
 use Prim.Native.Nat.{ℕ, zero, suc, _+_, _-_, _≤_, _<_}
 use mathlib.Core.Path.{_≡_, refl, ap, ap₂, _∙_, sym, subst}
 use mathlib.Core.Logic.{inl, inr}
-use mathlib.Core.List.{List, [], _∷_, _++_, append-assoc}
+use mathlib.Core.List.{List, [], _∷_, _++_, append-assoc, append-nil}
 use native.Mathlib.Omega.{arith}
 use native.Mathlib.Nat.{zero-add}
 use native.Mathlib.Numerals.{add-one}
 use borrow.Author.Tests.{lt-ltb, le-ltb}
-use lib.ListN.{length, getD, take, drop, set, replicate, length-set, length-append, length-replicate, getD-replicate, List·getD-append}
-use lib.Seq.{slice, slice-empty, slice-cons, take-take, take-set-le, drop-set-lt, drop-cons, set-split, getD-take, getD-drop, getD-set-same, getD-append-add, length-slice, paste, paste-zero, paste-suc, drop-paste, take-all}
+use lib.ListN.{length, getD, take, drop, set, replicate, length-set, length-append, length-replicate, getD-replicate, List·getD-append, take-append-drop}
+use lib.Seq.{slice, slice-empty, slice-cons, take-take, take-set-le, drop-set-lt, drop-cons, set-split, getD-take, getD-drop, getD-set-same, getD-append-add, length-slice, paste, paste-zero, paste-suc, drop-paste, take-all, length-take-le}
+use lib.Dec.{eqb, eqb→eq}
+use mathlib.Core.Bool.{cond}
 use Rattle.laws.specs.Lists.{In, put}
+use Rattle.laws.proofs.Tests.{cond-both}
 
 -- ---- a message put in its place
 
@@ -89,8 +92,22 @@ module _ {A : Type 0} (z : A) (l : List A) (k n : ℕ) (h : k ≤ n) (m : n ≤ 
   new-length : length (front z l k n) ≡ n
   new-length = let a = length-append (slice k n l) (replicate k z) in let b = length-slice k n l m in let c = length-replicate k z in omega arith
 
-  pub none-moved : Moved z l k n l 0
+  none-moved : Moved z l k n l 0
   none-moved = record { far = omega arith; is = paste-zero l 0 (front z l k n) }
+
+  -- where none leaves, all stand already
+  all-stand : k ≡ 0 → Moved z l k n l n
+  all-stand e = record {
+    far = omega arith;
+    is =
+        sym (take-append-drop n l)
+        ∙ ap (λ (x : List A). x ++ drop n l) (sym (take-all n (take n l) (let a = length-take-le n l m in omega arith)) ∙ ap (take n) (sym (append-nil (take n l)) ∙ ap (λ (x : ℕ). front z l x n) (sym e)))
+        ∙ ap (λ (x : ℕ). take n (front z l k n) ++ drop x l) (sym (zero-add n));
+  }
+
+  -- so moving begins at n, or else at 0
+  pub begins : {j : ℕ} → j ≡ cond (eqb k 0) n 0 → Moved z l k n l j
+  begins {j} e = subst (Moved z l k n l) (sym e) (cond-both (Moved z l k n l) (eqb k 0) n 0 (λ y. all-stand (eqb→eq k 0 y)) (λ y. none-moved))
 
   module _ {cur : List A} {j : ℕ} (v : Moved z l k n cur j) where
     stored : (a : A) → j < n → a ≡ getD (front z l k n) j z → Moved z l k n (set cur j a) (j + 1)

@@ -69,7 +69,7 @@ module _ (own before f : ℕ) (ms : List Message) where
     stopped h = last-left (m ∷ rest) (rw (lt-ltb f (stamp m) h)) g
 
     pub turned : stamp m ≤ f → {tk′ rt′ o′ : ℕ} → tk′ ≡ tk + one? (isTake m) → rt′ ≡ rt + one? (isReturn m)
-        → o′ ≡ cond (eqb o 0) (cond (isTake m && by own m) (tk + 1) 0) o → Leaves rest (i + 1) tk′ rt′ o′
+        → o′ ≡ cond (by own m && (isTake m && eqb o 0)) (tk + 1) o → Leaves rest (i + 1) tk′ rt′ o′
     unfolding upTo ownNumber
     turned h {tk′} {rt′} {o′} pt pr po =
         let R = upTo f rest in
@@ -86,11 +86,15 @@ module _ (own before f : ℕ) (ms : List Message) where
         }
       where
         go : (z t b : Bool) → eqb o 0 ≡ z → (R : List Message)
-            → found (cond z (cond (t && b) (tk + 1) 0) o) (ownNumber own (tk + one? t) R) ≡ cond z (cond t (cond b (tk + 1) (ownNumber own (tk + 1) R)) (ownNumber own tk R)) o
+            → found (cond (b && (t && z)) (tk + 1) o) (ownNumber own (tk + one? t) R) ≡ cond z (cond t (cond b (tk + 1) (ownNumber own (tk + 1) R)) (ownNumber own tk R)) o
         go true true true e R = rw (ne-eqb (tk + 1) 0 (λ d. omega arith))
-        go true true false e R = refl
-        go true false b e R = ap (λ (x : ℕ). ownNumber own x R) (add-zero tk)
-        go false t b e R = rw e
+        go true true false e R = rw e
+        go true false true e R = rw e (ap (λ (x : ℕ). ownNumber own x R) (add-zero tk))
+        go true false false e R = rw e (ap (λ (x : ℕ). ownNumber own x R) (add-zero tk))
+        go false true true e R = rw e
+        go false true false e R = rw e
+        go false false true e R = rw e
+        go false false false e R = rw e
 
   -- the next message of the first n
   pub step : (l : List Message) (k n : ℕ) {i tk rt o : ℕ} → k < n → n ≤ length l

@@ -1,15 +1,15 @@
 -- The record that the code makes, as the definitions make it anew. Assumes nothing.
 use mathlib.Core.Path.{_≡_, ap, ap₂, _∙_, sym}
-use mathlib.Core.List.{List, _++_, map}
+use mathlib.Core.List.{List, _++_, map, append-assoc}
 use Prim.Native.Nat.{ℕ, _+_, _-_, _≤_, _<_}
 use native.Mathlib.Omega.{arith}
 use mathlib.Core.Bool.{cond}
 use lib.Dec.{eqb}
-use lib.ListN.{length, getD, drop, replicate, length-drop, length-map, take-append-drop}
-use lib.Seq.{drop-drop}
+use lib.ListN.{length, getD, drop, replicate, length-drop, length-map, take, take-append-drop, replicate-append-replicate}
+use lib.Seq.{drop-drop, slice, length-slice}
 use Rattle.laws.specs.Lists.{many, put}
 use Rattle.laws.proofs.CountLaws.{length-put}
-use Rattle.laws.proofs.ShiftLaws.{drop-replicate}
+use Rattle.laws.proofs.ShiftLaws.{Moved, all-moved, drop-replicate}
 use Rattle.frame.specs.declared.Message.{Message}
 use Rattle.frame.specs.Message.{blank, isTake, isReturn, stampOf, stamp}
 use Rattle.post.specs.declared.Post.{Post}
@@ -75,6 +75,18 @@ module _ (p : Post) (k : Kept p) where
 
   pub has-room : p .waits < 62
   has-room = let h = most p (k .shape) (k .width) (k .sound) in omega arith
+
+-- the slots once those from k to n have moved to the front
+pub moved-slots : (l : List Message) (k n : ℕ) {cur : List Message} {j : ℕ} → k ≤ n → n ≤ 62 → length l ≡ 62 → drop n l ≡ replicate (62 - n) blank
+    → Moved blank l k n cur j → n ≤ j → cur ≡ inSlots (drop k (take n l))
+moved-slots l k n h b e z v q =
+    let s = slice k n l in
+    let d = length-slice k n l (omega arith) in
+    let r : k + (62 - n) ≡ 62 - length s = omega arith in
+    all-moved blank l k n h (omega arith) v q
+    ∙ ap (λ (x : List Message). (s ++ replicate k blank) ++ x) z
+    ∙ append-assoc s (replicate k blank) (replicate (62 - n) blank)
+    ∙ ap (λ (x : List Message). s ++ x) (replicate-append-replicate k (62 - n) blank ∙ ap (λ (x : ℕ). replicate x blank) r)
 
 -- what is settled has left
 pub settles-as : (p : Post) (f : ℕ) (gone : Gone) (slots : List Message) (phase order : ℕ) → length (waitingOf p) ≡ p .waits

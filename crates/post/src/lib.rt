@@ -289,7 +289,7 @@ impl Post {
         self
     }
 
-    // What a call gives back once what is settled has left the slots and is counted.
+    // What a call gives back once what is settled has left the slots and is counted: those from k to n move to the front, and zeros after them.
     fn settled(mut self, before: u8, wrote: bool) -> Answer
         requires { ⌜ Countable self ⌝ }
         ensures { λ r. ⌜ r ≡ answer before (settle self) wrote ⌝ }
@@ -301,13 +301,22 @@ impl Post {
         let floor = lasts::floor(last, self.posts as usize, own as usize);
         let gone = slots::leaving(slots, n, floor, own, self.takes);
         let k = gone.count;
-        let left = slots::drop_first(slots, n, k);
         let returns = self.returns + gone.returns;
         let order = order_after(self.phase, self.order, gone.order);
         let phase = phase_after(self.phase, order, self.places as u64 + returns);
         let granted = is_grant(before, phase);
-        self.waits = (n - k) as u8;
-        self.slots = left;
+        let m = n - k;
+        let mut j = slots::first_moved(k, n);
+        while j < m {
+            let x = self.slots[k + j];
+            self.slots[j] = x;
+            j += 1;
+        }
+        while j < n {
+            self.slots[j] = slots::BLANK;
+            j += 1;
+        }
+        self.waits = m as u8;
         self.takes = gone.takes;
         self.returns = returns;
         self.phase = phase;

@@ -183,16 +183,16 @@ fn one_kind(n: u64, kind: u8, m: Message) -> u64
 
 fn number_of(order: u64, takes: u64, own: u8, m: Message) -> u64
     requires { ⌜ takes < 2 ^ 63 ⌝ }
-    ensures { λ r. ⌜ r ≡ cond (eqb order 0) (cond (isTake m && by own m) (takes + 1) 0) order ⌝ }
+    ensures { λ r. ⌜ r ≡ cond (by own m && (isTake m && eqb order 0)) (takes + 1) order ⌝ }
 {
-    if order != 0 {
+    if m.sender != own {
         return order;
     }
     if m.kind != 1 {
-        return 0;
+        return order;
     }
-    if m.sender != own {
-        return 0;
+    if order != 0 {
+        return order;
     }
     takes + 1
 }
@@ -228,26 +228,14 @@ pub(crate) fn leaving(slots: [Message; 62], n: usize, floor: u64, own: u8, takes
     }
 }
 
-// The messages from k to n moved to the front, and zeros after them; none moves where none leaves.
-pub(crate) fn drop_first(slots: [Message; 62], n: usize, k: usize) -> [Message; 62]
-    requires { ⌜ (k ≤ n) × (n ≤ 62) × (drop n slots ≡ replicate (62 - n) blank) ⌝ }
-    ensures { λ r. ⌜ r ≡ inSlots (drop k (take n slots)) ⌝ }
+// Where moving begins when k of n leave: at n, so not at all, where none does.
+pub(crate) fn first_moved(k: usize, n: usize) -> usize
+    ensures { λ r. ⌜ r ≡ cond (eqb k 0) n 0 ⌝ }
 {
     if k == 0 {
-        return slots;
+        return n;
     }
-    let mut next = slots;
-    let m = n - k;
-    let mut j = 0;
-    while j < m {
-        next[j] = next[k + j];
-        j += 1;
-    }
-    while j < n {
-        next[j] = BLANK;
-        j += 1;
-    }
-    next
+    0
 }
 
 fn is_own_take(own: u8, m: Message) -> bool

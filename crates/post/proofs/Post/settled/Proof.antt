@@ -1,71 +1,157 @@
+-- Both loops store, one place a turn, what is to stand in the first n places; of the record only the slots change. Assumes nothing.
 use borrow.Author.Needs.{needs}
-use Prim.Native.Nat.{_+_, _≤_, _<_, _^_}
-use mathlib.Core.Path.{_≡_}
+use Prim.Native.Nat.{ℕ, _+_, _-_, _≤_, _<_, _^_}
+use mathlib.Core.Path.{_≡_, refl, ap, _∙_}
+use mathlib.Core.List.{List}
 use native.Mathlib.Omega.{arith}
-use lib.ListN.{length}
+use lib.ListN.{length, getD, set}
 use lib.Seq.{length-take-le}
-use Rattle.frame.specs.Message.{isReturn}
 use Rattle.laws.proofs.ScanLaws.{many-length}
-use Rattle.post.specs.Record.{waitingOf}
+use Rattle.laws.proofs.ShiftLaws.{Moved, begins, one-moved, one-cleared}
+use Rattle.frame.specs.declared.Message.{Message}
+use Rattle.frame.specs.Message.{blank, isReturn}
+use Rattle.post.specs.declared.Post.{Post}
+use Rattle.post.specs.Record.{waitingOf, made}
 use Rattle.post.specs.Settle.{upTo, settle}
 use Rattle.post.proofs.Leaving.{upTo-length}
 use Rattle.post.proofs.Answering.{is-answer}
-use Rattle.post.proofs.Remaking.{length-mapped, settles-as}
+use Rattle.post.proofs.Remaking.{length-mapped, with-slots, moved-slots, settles-as}
 use Rattle.post.proofs.Post.settled.Statement.{statement}
 use Rattle.post.proofs.Post.settled.Tie as tie
 
-long : (c : tie.Start) → length (c .args .self .slots) ≡ 62
+abbrev Inv-loop : tie.InvT-loop
+Inv-loop before wrote self₀ own n floor gone k returns order phase granted m j₀ self j =
+    (self ≡ with-slots self₀ (self .slots)) × Moved blank (self₀ .slots) k n (self .slots) j × (length (self .slots) ≡ 62) × (k ≤ n) × (n ≤ 62)
+
+abbrev μ-loop : tie.MeasureT-loop
+μ-loop before wrote self₀ own n floor gone k returns order phase granted m j₀ self j = n - j
+
+abbrev Inv-loop2 : tie.InvT-loop2
+Inv-loop2 before wrote self₀ own n floor gone k returns order phase granted m j₀ self j =
+    (self ≡ with-slots self₀ (self .slots))
+    × ((l : List Message) → k ≤ n → n ≤ length l → Moved blank l k n (self₀ .slots) j₀ → Moved blank l k n (self .slots) j)
+    × (length (self .slots) ≡ 62) × (n - k ≤ j) × (k ≤ n) × (n ≤ 62)
+
+abbrev μ-loop2 : tie.MeasureT-loop2
+μ-loop2 before wrote self₀ own n floor gone k returns order phase granted m j₀ self j = n - j
+
+long : (c : tie.Start Inv-loop μ-loop Inv-loop2 μ-loop2) → length (c .args .t1 .slots) ≡ 62
 long c = search (length-mapped, needs)
 
-waits : (c : tie.Start) → length (waitingOf (c .args .self)) ≡ c .args .self .waits
-waits c = let l = long c in let w = c .pre .waits in length-take-le (c .args .self .waits) (c .args .self .slots) (omega arith)
+waits : (c : tie.Start Inv-loop μ-loop Inv-loop2 μ-loop2) → length (waitingOf (c .args .t1)) ≡ c .args .t1 .waits
+waits c = let l = long c in let w = c .pre .waits in length-take-le (c .args .t1 .waits) (c .args .t1 .slots) (omega arith)
 
 -- no more leave than wait, and few are returns
-few : (c : tie.After-leaving) → (c .leaving .result .count ≤ c .before .before .before .before .before .before .args .self .waits) × (c .before .before .before .before .before .before .args .self .returns + c .leaving .result .returns < 2 ^ 63)
+few : (c : tie.After-leaving Inv-loop μ-loop Inv-loop2 μ-loop2) → let p = c .before .before .before .before .args .t1 in (c .leaving .result .count ≤ p .waits) × (p .returns + c .leaving .result .returns < 2 ^ 63)
 few c =
-    let l = waits (c .before .before .before .before .before .before) in
-    let ms = waitingOf (c .before .before .before .before .before .before .args .self) in
+    let s = c .before .before .before .before in
+    let l = waits s in
+    let ms = waitingOf (s .args .t1) in
     let h = upTo-length (c .before .floor .result) ms in
     let m = many-length isReturn (upTo (c .before .floor .result) ms) in
     let g = c .leaving .ensures in
-    let p = c .before .before .before .before .before .before .pre in
+    let p = s .pre in
     (omega (arith, g .count), omega (arith, g .returns, p .returns, p .waits))
 
-drop-first-requires : tie.Need-drop-first-requires
-drop-first-requires c κs = (few c .0, c .before .before .before .before .before .before .pre .waits, c .before .before .before .before .before .before .pre .blanks)
+add-returns : tie.Need-add-returns Inv-loop μ-loop Inv-loop2 μ-loop2
+add-returns c = let f = few (c .before) in search needs
 
-add-returns : tie.Need-add-returns
-add-returns c = let f = few (c .before .before .before) in search needs
+add-phase-after : tie.Need-add-phase-after Inv-loop μ-loop Inv-loop2 μ-loop2
+add-phase-after c = let f = few (c .before .before) in search needs
 
-add-phase-after : tie.Need-add-phase-after
-add-phase-after c = let f = few (c .before .before .before .before .before) in search needs
+sub-m : tie.Need-sub-m Inv-loop μ-loop Inv-loop2 μ-loop2
+sub-m c = let f = few (c .before .before .before .before) in search needs
 
-sub-self : tie.Need-sub-self
-sub-self c = let f = few (c .before .before .before .before .before .before .before) in search needs
+loop-holds : tie.Need-loop-holds Inv-loop μ-loop Inv-loop2 μ-loop2
+loop-holds c =
+    let p = c .before .before .before .before .before .before .before .before .before .args .t1 in
+    let l = long (c .before .before .before .before .before .before .before .before .before) in
+    let h = c .before .before .before .before .before .before .before .before .before .pre .waits in
+    let f = few (c .before .before .before .before .before) .0 in
+    (refl, begins blank (p .slots) _ _ f (omega arith) (c .first-moved .ensures), l, f, h)
 
-returns : tie.Need-returns
+loop-again : tie.Need-loop-again Inv-loop μ-loop Inv-loop2 μ-loop2
+loop-again c =
+    let k = c .before .before .loop in
+    let p = c .before .before .before .before .before .before .before .before .before .before .before .before .args .t1 in
+    let n : ℕ = c .before .before .before .before .before .before .before .before .leaving .result .count in
+    let l = long (c .before .before .before .before .before .before .before .before .before .before .before .before) in (
+      ap (λ (s : Post). with-slots s (set (k .self .slots) (k .j) (getD (k .self .slots) (n + k .j) blank))) (k .inv .0),
+      one-moved blank (p .slots) n (p .waits) (k .inv .3) (omega arith) (k .inv .1) (omega arith),
+      search needs,
+      k .inv .3,
+      k .inv .4,
+    )
+
+loop2-holds : tie.Need-loop2-holds Inv-loop μ-loop Inv-loop2 μ-loop2
+loop2-holds c =
+    let v = c .before .loop .inv in
+    (refl, λ l h g w. w, v .2, omega arith, v .3, v .4)
+
+loop2-again : tie.Need-loop2-again Inv-loop μ-loop Inv-loop2 μ-loop2
+loop2-again c =
+    let k = c .before .loop2 in
+    let i = k .inv in (
+      ap (λ (s : Post). with-slots s (set (k .self .slots) (k .j) blank)) (i .0),
+      λ l h g v. one-cleared blank l _ _ h g (i .1 l h g v) (i .3) (omega arith),
+      search needs,
+      omega arith,
+      i .4,
+      i .5,
+    )
+
+returns : tie.Need-returns Inv-loop μ-loop Inv-loop2 μ-loop2
 returns c =
     let a = c .before .before .before .before .before .before .before .before .before .before .before .before .before .args in
-    is-answer (a .before) (settle (a .self)) _ _ _
-    (settles-as _ _ _ _ _ _ (waits (c .before .before .before .before .before .before .before .before .before .before .before .before .before)) (c .before .before .before .before .before .before .before .before .floor .ensures) (c .before .before .before .before .before .before .before .leaving .ensures) (c .before .before .before .before .before .before .drop-first .ensures) (c .before .before .before .order-after .ensures) (c .before .phase-after .ensures))
-    (c .is-grant .ensures)
+    let p = a .t1 in
+    let l = long (c .before .before .before .before .before .before .before .before .before .before .before .before .before) in
+    let k = c .before .before .before .loop in
+    let k2 = c .before .loop2 in
+    let gone = c .before .before .before .before .before .before .before .before .before .leaving .result in
+    let rest : Post → Post = λ s. made (s .posts) (s .own) (s .feeder) (s .places) (s .clock) (s .last) (p .waits - gone .count) (k2 .self .slots) (gone .takes) (p .returns + gone .returns) (c .before .before .before .before .before .before .phase-after .result) (c .before .before .before .before .before .before .before .order-after .result) in
+    is-answer (a .before) (settle p) _ _ _
+    (ap rest (k2 .inv .0)
+    ∙ ap rest (k .inv .0)
+    ∙ settles-as p _ _ _ _ _ (waits (c .before .before .before .before .before .before .before .before .before .before .before .before .before)) (c .before .before .before .before .before .before .before .before .before .before .floor .ensures) (c .before .before .before .before .before .before .before .before .before .leaving .ensures)
+    (moved-slots (p .slots) (gone .count) (p .waits) (k .inv .3) (k .inv .4) l (c .before .before .before .before .before .before .before .before .before .before .before .before .before .pre .blanks) (k2 .inv .1 (p .slots) (k .inv .3) (omega arith) (k .inv .1)) (omega arith))
+    (c .before .before .before .before .before .before .before .order-after .ensures) (c .before .before .before .before .before .before .phase-after .ensures))
+    (c .before .before .before .before .before .is-grant .ensures)
 
 pub settled-spec : {M : Type 1} → statement M
 settled-spec =
     tie.close
     (tie.spec
+    Inv-loop
+    μ-loop
+    Inv-loop2
+    μ-loop2
     (λ c. search needs)
     (λ c. search needs)
     (λ c. search needs)
     (λ c κs. search needs)
     (λ c κs. search needs)
-    drop-first-requires
     add-returns
     (λ c κs. search needs)
     (λ c. search needs)
     add-phase-after
     (λ c κs. search needs)
     (λ c κs. search needs)
-    sub-self
+    sub-m
+    (λ c κs. search needs)
+    loop-holds
+    (λ c. search needs)
+    (λ c. search needs)
+    (λ c. search needs)
+    (λ c. search needs)
+    (λ c. search needs)
+    (λ c. search needs)
+    (λ c. search needs)
+    loop-again
+    loop2-holds
+    (λ c. search needs)
+    (λ c. search needs)
+    (λ c. search needs)
+    (λ c. search needs)
+    loop2-again
     (λ c. search needs)
     returns)
