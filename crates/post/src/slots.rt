@@ -55,26 +55,14 @@ fn fits_last(m: Message, last: u32) -> bool
     m.counter <= last
 }
 
-fn tally(n: u8, own: u8, m: Message, kind: u8) -> u8
+fn tally(n: u8, m: Message, kind: u8) -> u8
     requires { ⌜ n < 255 ⌝ }
-    ensures { λ r. ⌜ r ≡ n + one? (by own m && eqb (m .kind) kind) ⌝ }
+    ensures { λ r. ⌜ r ≡ n + one? (eqb (m .kind) kind) ⌝ }
 {
-    if m.sender != own {
-        return n;
-    }
     if m.kind != kind {
         return n;
     }
     n + 1
-}
-
-fn end_kind(end: u8, own: u8, m: Message) -> u8
-    ensures { λ r. ⌜ r ≡ cond (by own m) (m .kind) end ⌝ }
-{
-    if m.sender == own {
-        return m.kind;
-    }
-    end
 }
 
 pub(crate) fn disorderly() -> Seen
@@ -121,9 +109,11 @@ pub(crate) fn look(
         }
         top = t;
         counts[q] += 1;
-        takes = tally(takes, own, m, 1);
-        returns = tally(returns, own, m, 2);
-        end = end_kind(end, own, m);
+        if m.sender == own {
+            takes = tally(takes, m, 1);
+            returns = tally(returns, m, 2);
+            end = m.kind;
+        }
         i += 1;
     }
     Seen {

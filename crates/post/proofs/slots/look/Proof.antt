@@ -2,9 +2,10 @@
 use borrow.Author.Needs.{needs}
 use Prim.Native.Nat.{_+_, _≤_, _-_}
 use mathlib.Core.Path.{_≡_, _∙_, sym}
+use mathlib.Core.Logic.{⊎-elim}
 use mathlib.Core.List.{_∷_}
 use native.Mathlib.Omega.{arith}
-use borrow.Author.Tests.{not-true, not-false}
+use borrow.Author.Tests.{not-true, not-false, eq-eqb, ne-eqb}
 use lib.ListN.{length, getD, take}
 use lib.Seq.{slice, length-take-le}
 use Rattle.frame.specs.Message.{blank}
@@ -52,17 +53,19 @@ add-counts c =
     record { fits = omega arith }
 
 tally-requires : tie.Need-tally-requires Inv-loop μ-loop
-tally-requires c κs = takes-small _ _ _ _ _ (going (c .before .before .before .before .before .before .before .before)) (few (c .before .before .before .before .before .before .before .before .before .before))
+tally-requires c κs = takes-small _ _ _ _ _ (going (c .before .before .before .before .before .before .before .before .before .before)) (few (c .before .before .before .before .before .before .before .before .before .before .before .before))
 
 tally-requires-2 : tie.Need-tally-requires-2 Inv-loop μ-loop
-tally-requires-2 c κs = returns-small _ _ _ _ _ (going (c .before .before .before .before .before .before .before .before .before)) (few (c .before .before .before .before .before .before .before .before .before .before .before))
+tally-requires-2 c κs = returns-small _ _ _ _ _ (going (c .before .before .before .before .before .before .before .before .before .before .before)) (few (c .before .before .before .before .before .before .before .before .before .before .before .before .before))
 
 loop-again : tie.Need-loop-again Inv-loop μ-loop
 loop-again c =
-    let fits = sym (c .before .before .before .before .before .before .fits-last .ensures) ∙ not-false _ (c .before .before .before .before .before .if2 .left) in (
-      omega arith,
-      turned _ _ _ _ _ (going (c .before .before .before .before .before .before .before .before .before .before .before)) (c .before .before .before .before .before .before .before .before .if1 .left) (search needs) fits (c .before .before .before .before .stamp .ensures) (c .before .before .before .if3 .left) (c .before .before .tally .ensures) (c .before .tally2 .ensures) (c .end-kind .ensures),
-    )
+    let fits = sym (c .before .before .before .before .before .fits-last .ensures) ∙ not-false _ (c .before .before .before .before .if2 .left) in
+    let turn = turned _ _ _ _ _ (going (c .before .before .before .before .before .before .before .before .before .before)) (c .before .before .before .before .before .before .before .if1 .left) (search needs) fits (c .before .before .before .stamp .ensures) (c .before .before .if3 .left) in
+    ⊎-elim
+    (λ w. let y = eq-eqb _ _ (w .0 .taken) in (omega arith, turn (rw y (w .3 ∙ w .1 .ensures)) (rw y (w .4 ∙ w .2 .ensures)) (rw y (w .5))))
+    (λ w. let y = ne-eqb _ _ (w .0 .left) in (omega arith, turn (rw y (omega arith)) (rw y (omega arith)) (rw y (w .3))))
+    (c .if4 .came)
 
 returns-4 : tie.Need-returns-4 Inv-loop μ-loop
 returns-4 c =
@@ -94,7 +97,6 @@ look-spec =
     (λ c. search needs)
     tally-requires
     tally-requires-2
-    (λ c κs. search needs)
     (λ c. search needs)
     (λ c. search needs)
     loop-again

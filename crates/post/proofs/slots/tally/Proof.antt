@@ -8,10 +8,7 @@ returns : tie.Need-returns
 returns c = simp (ne-eqb _ _ (c .if1 .taken)) (omega arith)
 
 returns-2 : tie.Need-returns-2
-returns-2 c = simp (eq-eqb _ _ (c .before .before .if1 .left), ne-eqb _ _ (c .if2 .taken)) (omega arith)
-
-returns-3 : tie.Need-returns-3
-returns-3 c = simp (eq-eqb _ _ (c .before .before .if1 .left), eq-eqb _ _ (c .if2 .left)) (omega arith)
+returns-2 c = simp (eq-eqb _ _ (c .if1 .left)) (omega arith)
 
 pub tally-spec : {M : Type 1} → statement M
-tally-spec = tie.close (tie.spec returns returns-2 (λ c. search needs) returns-3)
+tally-spec = tie.close (tie.spec returns (λ c. search needs) returns-2)
