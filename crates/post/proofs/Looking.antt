@@ -1,4 +1,4 @@
--- One turn of the look over the waiting messages. Assumes nothing.
+-- One turn of the look over the waiting messages, and of that over the slots after them. Assumes nothing.
 use mathlib.Core.Path.{_≡_, refl, ap, _∙_, sym, subst}
 use mathlib.Core.Bool.{Bool, true, false, cond, _&&_, and-false, false≢true}
 use mathlib.Core.List.{List, [], _∷_}
@@ -7,19 +7,19 @@ use native.Mathlib.Omega.{arith}
 use native.Mathlib.Nat.{zero-add}
 use borrow.Author.Tests.{lt-ltb, le-ltb}
 use lib.Dec.{leb, eqb, eqb→eq}
-use lib.ListN.{length, getD, set, replicate, length-set, getD-replicate}
+use lib.ListN.{length, getD, drop, set, replicate, length-set, getD-replicate, drop-of-length-le}
 use lib.Seq.{slice, getD-set-same, getD-set-other}
 use Rattle.laws.specs.Lists.{keep, all, many}
 use Rattle.laws.specs.Below.{one?}
 use Rattle.laws.proofs.Tests.{test, neqb→ne}
 use Rattle.laws.proofs.BelowLaws.{one-yes, one-eqb}
 use Rattle.laws.proofs.ListLaws.{many-cons}
-use Rattle.laws.proofs.ScanLaws.{next, over, many-length}
+use Rattle.laws.proofs.ScanLaws.{next, next-drop, over, many-length}
 use Rattle.frame.specs.declared.Message.{Message}
 use Rattle.frame.specs.Message.{blank, counted, isTake, isReturn, stamp, by}
 use Rattle.post.specs.declared.slots.Seen.{Seen}
 use Rattle.post.specs.Inside.{Looked}
-use Rattle.post.specs.Sound.{fair, rises, endKind}
+use Rattle.post.specs.Sound.{fair, rises, isBlank, endKind}
 
 -- what a message has that `fits_last` finds
 abbrev pub fitsLast : List ℕ → Message → Bool
@@ -95,21 +95,29 @@ module _ (posts own : ℕ) (last : List ℕ) (t : ℕ) (ms : List Message) where
           sixteen = length-set counts s _ ∙ g .sixteen;
         }
 
-  pub looked : {top : ℕ} {counts : List ℕ} {tk rt e : ℕ} → Going [] top counts tk rt e
-      → Looked posts own last t ms (record { orderly = true; counts = counts; takes = tk; returns = rt; end = e })
-  unfolding all rises keep endKind
-  looked {top} {counts} {tk} {rt} {e} g = record {
-    orderly = g .orderly;
-    counts = λ z q l. let a = g .each q l in omega arith;
-    takes = λ z. let a = g .takes in omega arith;
-    returns = λ z. let a = g .returns in omega arith;
-    end = λ z. g .end;
-  }
+  module _ {unused : List Message} where
+    pub looked : {top : ℕ} {counts : List ℕ} {tk rt e : ℕ} → Going [] top counts tk rt e → all isBlank unused ≡ true
+        → Looked posts own last t ms unused (record { orderly = true; counts = counts; takes = tk; returns = rt; end = e })
+    unfolding all rises keep endKind
+    looked {top} {counts} {tk} {rt} {e} g b = record {
+      orderly = λ i. g .orderly i && sym b i;
+      counts = λ z q l. let a = g .each q l in omega arith;
+      takes = λ z. let a = g .takes in omega arith;
+      returns = λ z. let a = g .returns in omega arith;
+      end = λ z. g .end;
+    }
 
-  pub unlooked : (seen : Seen) → seen .orderly ≡ false → false ≡ (all (fair posts last) ms && rises t ms) → Looked posts own last t ms seen
-  unlooked seen n e =
-      let no : seen .orderly ≡ true → ⊥ = λ y. false≢true (sym n ∙ y) in
-      record { orderly = n ∙ e; counts = λ y. absurd (no y); takes = λ y. absurd (no y); returns = λ y. absurd (no y); end = λ y. absurd (no y) }
+    -- one fault is enough
+    unlooked : (seen : Seen) → seen .orderly ≡ false → false ≡ ((all (fair posts last) ms && rises t ms) && all isBlank unused) → Looked posts own last t ms unused seen
+    unlooked seen n e =
+        let no : seen .orderly ≡ true → ⊥ = λ y. false≢true (sym n ∙ y) in
+        record { orderly = n ∙ e; counts = λ y. absurd (no y); takes = λ y. absurd (no y); returns = λ y. absurd (no y); end = λ y. absurd (no y) }
+
+    pub wrong : (seen : Seen) → seen .orderly ≡ false → false ≡ (all (fair posts last) ms && rises t ms) → Looked posts own last t ms unused seen
+    wrong seen n e = unlooked seen n (ap (λ (x : Bool). x && all isBlank unused) e)
+
+    pub used : (seen : Seen) → seen .orderly ≡ false → all isBlank unused ≡ false → Looked posts own last t ms unused seen
+    used seen n e = unlooked seen n (sym (rw e (and-false (all (fair posts last) ms && rises t ms))))
 
   -- the next message of the first n
   pub step : (l : List Message) (i n : ℕ) {top : ℕ} {counts : List ℕ} {tk rt e : ℕ} → i < n → n ≤ length l
@@ -119,3 +127,16 @@ module _ (posts own : ℕ) (last : List ℕ) (t : ℕ) (ms : List Message) where
   pub last-step : (l : List Message) (i n : ℕ) {top : ℕ} {counts : List ℕ} {tk rt e : ℕ} → i ≤ n → n ≤ i
       → Going (slice i n l) top counts tk rt e → Going [] top counts tk rt e
   last-step l i n {top} {counts} {tk} {rt} {e} h k g = subst (λ (r : List Message). Going r top counts tk rt e) (over l i n h k) g
+
+module _ (l : List Message) (i : ℕ) (h : i < length l) where
+  pub full-slot : isBlank (getD l i blank) ≡ false → all isBlank (drop i l) ≡ false
+  unfolding all
+  full-slot e = ap (all isBlank) (next-drop l i blank h) ∙ rw e
+
+  pub blank-slot : isBlank (getD l i blank) ≡ true → all isBlank (drop i l) ≡ all isBlank (drop (i + 1) l)
+  unfolding all
+  blank-slot e = ap (all isBlank) (next-drop l i blank h) ∙ rw e
+
+pub no-slot : (l : List Message) (i : ℕ) → length l ≤ i → all isBlank (drop i l) ≡ true
+unfolding all
+no-slot l i h = ap (all isBlank) (drop-of-length-le l {i = i} h)

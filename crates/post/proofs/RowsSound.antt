@@ -1,6 +1,7 @@
 -- The rows of the rules, from what the code's functions say. Assumes nothing.
 use mathlib.Core.Path.{_≡_, refl, ap, _∙_, sym, subst}
-use mathlib.Core.Bool.{Bool, true, false, not, _&&_, _||_, and-true, false≢true}
+use mathlib.Core.Bool.{Bool, true, false, not, _&&_, _||_, and-true, and-false, false≢true}
+use mathlib.Core.List.{List}
 use Prim.Native.Nat.{ℕ, _+_, _≤_}
 use native.Mathlib.Omega.{arith}
 use denote.Floats.{passes}
@@ -10,12 +11,13 @@ use Rattle.laws.specs.Ladder.{every}
 use Rattle.laws.specs.Lists.{all}
 use Rattle.laws.specs.Below.{allTo, sumTo}
 use Rattle.laws.proofs.ScanLaws.{allTo-both, allTo-cong}
+use Rattle.frame.specs.declared.Message.{Message}
 use Rattle.frame.specs.Message.{stampOf}
 use Rattle.post.specs.declared.Post.{Post}
 use Rattle.post.specs.declared.slots.Seen.{Seen}
 use Rattle.post.specs.Record.{leastTo, lastOf, waitingOf, floor}
 use Rattle.post.specs.Inside.{Looked, Checked}
-use Rattle.post.specs.Sound.{absentSilent, clockAbove, fair, rises, noneAlone, isBlank, few, ownFits, ownFew, sumFits, numberRules, slotRules}
+use Rattle.post.specs.Sound.{absentSilent, clockAbove, fair, rises, noneAlone, few, ownFits, ownFew, sumFits, numberRules, slotRules}
 use Rattle.post.proofs.Ranges.{range-is}
 use Rattle.post.proofs.SoundFacts.{each}
 
@@ -29,25 +31,26 @@ lasts-fit p e = e ∙ allTo-both 16 _ _ ∙ ap (λ (x : Bool). absentSilent p &&
 pub fails : (p : Post) {rules : Bool} {seen : Seen} → seen .orderly ≡ false → false ≡ rules → Checked p rules seen
 fails p n e = record { holds = n ∙ e; counts = λ y. absurd (false≢true (sym n ∙ y)) }
 
-module _ (p : Post) (seen : Seen) (w : Looked (p .posts) (p .own) (p .last) (floor p) (waitingOf p) seen) where
+module _ (p : Post) (seen : Seen) (w : Looked (p .posts) (p .own) (p .last) (floor p) (waitingOf p) (drop (p .waits) (p .slots)) seen) where
   -- what the look found wrong fails the row
   pub disorder : seen .orderly ≡ false → false ≡ every (slotRules p)
   unfolding slotRules
-  disorder n = go (all (fair (p .posts) (p .last)) (waitingOf p)) (rises (floor p) (waitingOf p)) _ (sym (w .orderly) ∙ n)
+  disorder n = go (all (fair (p .posts) (p .last)) (waitingOf p)) (rises (floor p) (waitingOf p)) (noneAlone p) _ _ (sym (w .orderly) ∙ n)
     where
-      go : (a b c : Bool) → a && b ≡ false → false ≡ a && (b && c)
-      go true b c e = sym (ap (λ (x : Bool). x && c) e)
-      go false b c e = refl
+      go : (a b c d e : Bool) → (a && b) && d ≡ false → false ≡ a && (b && (c && (d && e)))
+      go true true c d e n = sym (rw n (and-false c))
+      go true false c d e n = refl
+      go false b c d e n = refl
 
   -- and what it found right leaves the rest of the row
-  pub order : seen .orderly ≡ true → {r : Bool}
-      → r ≡ noneAlone p && (all isBlank (drop (p .waits) (p .slots)) && (allTo (p .posts) (few p) && (ownFew p && true))) → r ≡ every (slotRules p)
+  pub order : seen .orderly ≡ true → {r : Bool} → r ≡ noneAlone p && (allTo (p .posts) (few p) && (ownFew p && true)) → r ≡ every (slotRules p)
   unfolding slotRules
-  order y e = e ∙ sym (go (all (fair (p .posts) (p .last)) (waitingOf p)) (rises (floor p) (waitingOf p)) _ (sym (w .orderly) ∙ y))
+  order y e = e ∙ sym (go (all (fair (p .posts) (p .last)) (waitingOf p)) (rises (floor p) (waitingOf p)) (noneAlone p) _ _ (sym (w .orderly) ∙ y))
     where
-      go : (a b c : Bool) → a && b ≡ true → a && (b && c) ≡ c
-      go true b c e = ap (λ (x : Bool). x && c) e
-      go false b c e = absurd (false≢true e)
+      go : (a b c d e : Bool) → (a && b) && d ≡ true → a && (b && (c && (d && e))) ≡ c && e
+      go true true c d e y = ap (λ (x : Bool). c && (x && e)) y
+      go true false c d e y = absurd (false≢true y)
+      go false b c d e y = absurd (false≢true y)
 
   pub few-is : seen .orderly ≡ true → p .posts ≤ 16 → {r : Bool} → r ≡ allTo (p .posts) (λ q. eqb q (p .own) || leb (getD (seen .counts) q 0) 4)
       → r ≡ allTo (p .posts) (few p)
@@ -80,10 +83,10 @@ numbers-has p e =
     record { posts = r .posts-high; waits = leb→le (p .waits) 62 (n .1 .1 .0) }
 
 -- the floor that the code works out is the record's
-pub looked-floor : (p : Post) (seen : Seen) {f : ℕ} → f ≡ leastTo (p .posts) (p .own) (λ q. stampOf (getD (p .last) q 0) q)
-    → Looked (p .posts) (p .own) (p .last) f (take (p .waits) (p .slots)) seen → Looked (p .posts) (p .own) (p .last) (floor p) (waitingOf p) seen
+pub looked-floor : (p : Post) (seen : Seen) {f : ℕ} {unused : List Message} → f ≡ leastTo (p .posts) (p .own) (λ q. stampOf (getD (p .last) q 0) q)
+    → Looked (p .posts) (p .own) (p .last) f (take (p .waits) (p .slots)) unused seen → Looked (p .posts) (p .own) (p .last) (floor p) (waitingOf p) unused seen
 unfolding floor
-looked-floor p seen e w = subst (λ (x : ℕ). Looked (p .posts) (p .own) (p .last) x (waitingOf p) seen) e w
+looked-floor p seen {unused = unused} e w = subst (λ (x : ℕ). Looked (p .posts) (p .own) (p .last) x (waitingOf p) unused seen) e w
 
 pub sum-is : (p : Post) {most : ℕ} {r : Bool} → most ≡ sumTo 16 (λ q. getD (p .last) q 0) → r ≡ leb (p .takes + p .returns + p .waits) most → sumFits p ≡ r
 unfolding sumFits

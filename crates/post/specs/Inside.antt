@@ -8,11 +8,11 @@ use Rattle.post.specs.declared.slots.Seen.{Seen}
 use Rattle.post.specs.declared.slots.Gone.{Gone}
 use Rattle.post.specs.Record.{waitingOf}
 use Rattle.post.specs.Settle.{ownNumber}
-use Rattle.post.specs.Sound.{fair, rises, endKind}
+use Rattle.post.specs.Sound.{fair, rises, isBlank, endKind}
 
--- a look over messages above the floor t
-pub record Looked (posts own : ℕ) (last : List ℕ) (t : ℕ) (ms : List Message) (seen : Seen) : Type 0 where
-  pub orderly : seen .orderly ≡ (all (fair posts last) ms && rises t ms)
+-- a look over messages above the floor t, and over the slots after them
+pub record Looked (posts own : ℕ) (last : List ℕ) (t : ℕ) (ms unused : List Message) (seen : Seen) : Type 0 where
+  pub orderly : seen .orderly ≡ ((all (fair posts last) ms && rises t ms) && all isBlank unused)
   pub counts : seen .orderly ≡ true → (q : ℕ) → q < 16 → getD (seen .counts) q 0 ≡ many (by q) ms
   pub takes : seen .orderly ≡ true → seen .takes ≡ many (ownTake own) ms
   pub returns : seen .orderly ≡ true → seen .returns ≡ many (ownReturn own) ms

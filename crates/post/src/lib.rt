@@ -195,9 +195,6 @@ impl Post {
         if rules::is_crowd(self.posts, self.waits) {
             return slots::disorderly();
         }
-        if !slots::blank_from(slots, n) {
-            return slots::disorderly();
-        }
         let counts = seen.counts;
         if !lasts::few(counts, self.posts, self.own) {
             return slots::disorderly();

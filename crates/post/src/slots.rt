@@ -7,7 +7,7 @@ ghost use mathlib.Core.List.{_++_};
 ghost use Prim.Native.Nat.{_≤_, _<_, _+_, _-_, _^_};
 ghost use lib.Dec.{leb, eqb};
 ghost use lib.ListN.{take, drop, replicate};
-ghost use Rattle.laws.specs.Lists.{all, many, put, Rising};
+ghost use Rattle.laws.specs.Lists.{put, Rising};
 ghost use Rattle.laws.specs.Below.{one?};
 ghost use Rattle.frame.specs.Message.{blank, isTake, counted, stamp, by};
 ghost use Rattle.post.specs.Record.{inSlots};
@@ -22,9 +22,9 @@ pub(crate) const BLANK: Message = Message {
     counter: 0,
 };
 
-// What a look over the waiting messages finds.
+// What a look over the slots finds of the messages that wait there.
 pub(crate) struct Seen {
-    // each is fair, and the stamps rise above the floor
+    // each is fair, the stamps rise above the floor, and the other slots are zero
     pub orderly: bool,
     // how many of each sender
     pub counts: [u8; 16],
@@ -65,6 +65,18 @@ fn tally(n: u8, m: Message, kind: u8) -> u8
     n + 1
 }
 
+fn is_blank(m: Message) -> bool
+    ensures { λ r. ⌜ r ≡ isBlank m ⌝ }
+{
+    if m.kind != 0 {
+        return false;
+    }
+    if m.sender != 0 {
+        return false;
+    }
+    m.counter == 0
+}
+
 pub(crate) fn disorderly() -> Seen
     ensures { λ r. ⌜ r .orderly ≡ false ⌝ }
 {
@@ -86,7 +98,7 @@ pub(crate) fn look(
     floor: u64,
 ) -> Seen
     requires { ⌜ (n ≤ 62) × (posts ≤ 16) ⌝ }
-    ensures { λ r. ⌜ Looked posts own last floor (take n slots) r ⌝ }
+    ensures { λ r. ⌜ Looked posts own last floor (take n slots) (drop n slots) r ⌝ }
 {
     let mut counts = [0u8; 16];
     let mut takes = 0u8;
@@ -116,6 +128,12 @@ pub(crate) fn look(
         }
         i += 1;
     }
+    while i < 62 {
+        if !is_blank(slots[i]) {
+            return disorderly();
+        }
+        i += 1;
+    }
     Seen {
         orderly: true,
         counts,
@@ -123,33 +141,6 @@ pub(crate) fn look(
         returns,
         end,
     }
-}
-
-fn is_blank(m: Message) -> bool
-    ensures { λ r. ⌜ r ≡ isBlank m ⌝ }
-{
-    if m.kind != 0 {
-        return false;
-    }
-    if m.sender != 0 {
-        return false;
-    }
-    m.counter == 0
-}
-
-// The slots from n on are zero.
-pub(crate) fn blank_from(slots: [Message; 62], n: usize) -> bool
-    requires { ⌜ n ≤ 62 ⌝ }
-    ensures { λ r. ⌜ r ≡ all isBlank (drop n slots) ⌝ }
-{
-    let mut i = n;
-    while i < 62 {
-        if !is_blank(slots[i]) {
-            return false;
-        }
-        i += 1;
-    }
-    true
 }
 
 // What of the first n is settled: how many, and the counts with it.

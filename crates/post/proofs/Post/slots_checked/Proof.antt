@@ -2,6 +2,7 @@ use borrow.Author.Needs.{needs}
 use mathlib.Core.Path.{refl, _∙_, sym}
 use mathlib.Core.Bool.{true}
 use borrow.Author.Tests.{not-true, not-false}
+use lib.ListN.{drop}
 use Rattle.laws.proofs.Ladders.{and-first, and-fails}
 use Rattle.post.specs.Record.{waitingOf, floor}
 use Rattle.post.specs.Inside.{Looked}
@@ -9,7 +10,7 @@ use Rattle.post.proofs.RowsSound.{numbers-has, looked-floor, fails, dis
 use Rattle.post.proofs.Post.slots_checked.Statement.{statement}
 use Rattle.post.proofs.Post.slots_checked.Tie as tie
 
-looked : (c : tie.After-look) → let p = c .before .before .before .before .before .before .before .args .self in Looked (p .posts) (p .own) (p .last) (floor p) (waitingOf p) (c .look .result)
+looked : (c : tie.After-look) → let p = c .before .before .before .before .before .before .before .args .self in Looked (p .posts) (p .own) (p .last) (floor p) (waitingOf p) (drop (p .waits) (p .slots)) (c .look .result)
 looked c = looked-floor _ _ (c .before .floor .ensures) (c .look .ensures)
 
 floor-requires : tie.Need-floor-requires
@@ -26,17 +27,17 @@ returns-2 c =
     fails _ (c .disorderly2 .ensures)
     (order _ _ (looked (c .before .before .before .before .before)) (not-false _ (c .before .before .before .if1 .left)) (and-fails _ _ (crowd _ true (sym (c .before .before .is-crowd .ensures) ∙ c .before .if2 .taken)) refl))
 
-blank-from-requires : tie.Need-blank-from-requires
-blank-from-requires c κs = numbers-has _ (c .before .before .before .before .before .before .before .before .before .before .before .pre) .waits
+few-requires : tie.Need-few-requires
+few-requires c κs = numbers-has _ (c .before .before .before .before .before .before .before .before .before .before .before .before .pre) .posts
 
 returns-3 : tie.Need-returns-3
 returns-3 c =
+    let w = looked (c .before .before .before .before .before .before .before .before) in
+    let y = not-false _ (c .before .before .before .before .before .before .if1 .left) in
     fails _ (c .disorderly3 .ensures)
-    (order _ _ (looked (c .before .before .before .before .before .before .before)) (not-false _ (c .before .before .before .before .before .if1 .left))
-    (and-first _ _ (crowd _ _ (sym (c .before .before .before .before .is-crowd .ensures) ∙ c .before .before .before .if2 .left)) (and-fails _ _ (sym (c .before .before .blank-from .ensures) ∙ not-true _ (c .before .if3 .taken)) refl)))
-
-few-requires : tie.Need-few-requires
-few-requires c κs = numbers-has _ (c .before .before .before .before .before .before .before .before .before .before .before .before .before .before .pre) .posts
+    (order _ _ w y
+    (and-first _ _ (crowd _ _ (sym (c .before .before .before .before .before .is-crowd .ensures) ∙ c .before .before .before .before .if2 .left))
+    (and-fails _ _ (sym (few-is _ _ w y (numbers-has _ (c .before .before .before .before .before .before .before .before .before .before .before .before .before .before .before .pre) .posts) (c .before .before .few .ensures)) ∙ not-true _ (c .before .if3 .taken)) refl)))
 
 returns-4 : tie.Need-returns-4
 returns-4 c =
@@ -45,30 +46,18 @@ returns-4 c =
     fails _ (c .disorderly4 .ensures)
     (order _ _ w y
     (and-first _ _ (crowd _ _ (sym (c .before .before .before .before .before .before .before .is-crowd .ensures) ∙ c .before .before .before .before .before .before .if2 .left))
-    (and-first _ _ (sym (c .before .before .before .before .before .blank-from .ensures) ∙ not-false _ (c .before .before .before .before .if3 .left))
-    (and-fails _ _ (sym (few-is _ _ w y (numbers-has _ (c .before .before .before .before .before .before .before .before .before .before .before .before .before .before .before .before .before .pre) .posts) (c .before .before .few .ensures)) ∙ not-true _ (c .before .if4 .taken)) refl))))
+    (and-first _ _ (sym (few-is _ _ w y (numbers-has _ (c .before .before .before .before .before .before .before .before .before .before .before .before .before .before .before .before .before .pre) .posts) (c .before .before .before .before .few .ensures)) ∙ not-false _ (c .before .before .before .if3 .left))
+    (sym (not-true _ (c .before .if4 .taken)) ∙ own-is _ _ w y (c .before .before .own-fits .ensures)))))
 
 returns-5 : tie.Need-returns-5
 returns-5 c =
-    let w = looked (c .before .before .before .before .before .before .before .before .before .before .before .before) in
-    let y = not-false _ (c .before .before .before .before .before .before .before .before .before .before .if1 .left) in
-    fails _ (c .disorderly5 .ensures)
-    (order _ _ w y
-    (and-first _ _ (crowd _ _ (sym (c .before .before .before .before .before .before .before .before .before .is-crowd .ensures) ∙ c .before .before .before .before .before .before .before .before .if2 .left))
-    (and-first _ _ (sym (c .before .before .before .before .before .before .before .blank-from .ensures) ∙ not-false _ (c .before .before .before .before .before .before .if3 .left))
-    (and-first _ _ (sym (few-is _ _ w y (numbers-has _ (c .before .before .before .before .before .before .before .before .before .before .before .before .before .before .before .before .before .before .before .pre) .posts) (c .before .before .before .before .few .ensures)) ∙ not-false _ (c .before .before .before .if4 .left))
-    (sym (not-true _ (c .before .if5 .taken)) ∙ own-is _ _ w y (c .before .before .own-fits .ensures))))))
-
-returns-6 : tie.Need-returns-6
-returns-6 c =
-    let w = looked (c .before .before .before .before .before .before .before .before .before .before .before) in
-    let y = not-false _ (c .before .before .before .before .before .before .before .before .before .if1 .left) in
+    let w = looked (c .before .before .before .before .before .before .before .before .before) in
+    let y = not-false _ (c .before .before .before .before .before .before .before .if1 .left) in
     record {
       holds = y ∙ order _ _ w y
-          (and-first _ _ (crowd _ _ (sym (c .before .before .before .before .before .before .before .before .is-crowd .ensures) ∙ c .before .before .before .before .before .before .before .if2 .left))
-          (and-first _ _ (sym (c .before .before .before .before .before .before .blank-from .ensures) ∙ not-false _ (c .before .before .before .before .before .if3 .left))
-          (and-first _ _ (sym (few-is _ _ w y (numbers-has _ (c .before .before .before .before .before .before .before .before .before .before .before .before .before .before .before .before .before .before .pre) .posts) (c .before .before .before .few .ensures)) ∙ not-false _ (c .before .before .if4 .left))
-          (sym (not-false _ (c .if5 .left)) ∙ own-is _ _ w y (c .before .own-fits .ensures)))));
+          (and-first _ _ (crowd _ _ (sym (c .before .before .before .before .before .before .is-crowd .ensures) ∙ c .before .before .before .before .before .if2 .left))
+          (and-first _ _ (sym (few-is _ _ w y (numbers-has _ (c .before .before .before .before .before .before .before .before .before .before .before .before .before .before .before .before .pre) .posts) (c .before .before .before .few .ensures)) ∙ not-false _ (c .before .before .if3 .left))
+          (sym (not-false _ (c .if4 .left)) ∙ own-is _ _ w y (c .before .own-fits .ensures))));
       counts = w .counts;
     }
 
@@ -86,13 +75,10 @@ slots-checked-spec =
     (λ c κs. search needs)
     (λ c κs. search needs)
     returns-2
-    blank-from-requires
-    (λ c κs. search needs)
-    returns-3
     few-requires
     (λ c κs. search needs)
+    returns-3
+    (λ c κs. search needs)
+    (λ c κs. search needs)
     returns-4
-    (λ c κs. search needs)
-    (λ c κs. search needs)
-    returns-5
-    returns-6)
+    returns-5)
