@@ -8,17 +8,17 @@ use frame::Message;
 ghost use mathlib.Core.Path.{_≡_};
 ghost use mathlib.Core.Bool.{true, cond, not, _&&_};
 ghost use mathlib.Core.List.{[], _∷_};
-ghost use Prim.Native.Nat.{_≤_, _<_, _+_, _^_, max};
+ghost use Prim.Native.Nat.{_≤_, _<_, _+_, max};
 ghost use lib.Dec.{eqb, ltb, leb, T};
 ghost use lib.ListN.{length};
 ghost use Rattle.laws.specs.Ladder.{_when_, refusal, every};
-ghost use Rattle.frame.specs.Message.{known, lastCounter, stampOf};
+ghost use Rattle.frame.specs.Message.{lastCounter, stampOf};
 ghost use Rattle.frame.specs.Table.{senderTests, turnTests};
 ghost use Rattle.post.specs.Record.{lastOf, fresh};
-ghost use Rattle.post.specs.Sound.{inRange, numberRules, slotRules, countRules, sound};
+ghost use Rattle.post.specs.Sound.{numberRules, slotRules, countRules, sound};
 ghost use Rattle.post.specs.Settle.{phaseAfter, settle};
 ghost use Rattle.post.specs.Inside.{Countable, Checked};
-ghost use Rattle.post.specs.Calls.{started, joined, noted, receiveRows, Gives, answer, refused, writing, said, took, gaveBack, acknowledged, received, valued, missed};
+ghost use Rattle.post.specs.Calls.{started, joined, noted, receiveRows, Gives, answer, refused, took, gaveBack, acknowledged, received, valued, missed};
 
 // Document 01's record, its fields in 01's order and widths.
 pub struct Post {
