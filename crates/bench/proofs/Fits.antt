@@ -1,5 +1,5 @@
 -- What feeding and finishing use and write fits what they are given. Assumes nothing.
-use mathlib.Core.Path.{_≡_, refl, _∙_}
+use mathlib.Core.Path.{_≡_, refl, ap, _∙_}
 use mathlib.Core.Bool.{Bool, true, false, cond, _||_}
 use mathlib.Core.List.{List, [], _∷_}
 use Prim.Native.Nat.{ℕ, _+_, _-_, _≤_}
@@ -9,8 +9,9 @@ use lib.Dec.{ltb}
 use lib.ListN.{length}
 use lib.Seq.{sets, length-sets}
 use Rattle.bench.specs.declared.Bench.{Bench}
+use Rattle.bench.specs.declared.Fed.{Fed}
 use Rattle.bench.specs.declared.Finished.{Finished}
-use Rattle.bench.specs.Bench.{isOver, stepped, Feeding, feeding, ending, finished}
+use Rattle.bench.specs.Bench.{isOver, stepped, Feeding, feeding, Feeds, ending, finished, finishedBytes, Ends}
 use Rattle.bench.proofs.Feeding.{roomy}
 use Rattle.bench.proofs.Running.{stepped-few, ending-few}
 
@@ -52,3 +53,28 @@ finished-fits b out = go (ltb (length out) 64) refl
     go : (t : Bool) → ltb (length out) 64 ≡ t → cond {A = Finished} t (record { written = 0; done = false }) (record { written = length (ending b); done = true }) .written ≤ length out
     go true e = omega arith
     go false e = let h = ltb-false (length out) 64 e in let few = ending-few b in omega arith
+
+-- ---- the same of what feed and finish hand back
+
+pub fed-fits : (b : Bench) (part out : List ℕ) (r : Fed) (after : List ℕ) → Feeds (feeding b part 0 0 out) r after
+    → (r .used ≤ length part) × (r .written ≤ length out) × (length after ≡ length out)
+fed-fits b part out r after p =
+    let f = feeding-fits b part 0 0 out (omega arith) in
+    (go (r .used) (λ i. p .gives i .used) (f .used-most), again (r .written) (λ i. p .gives i .written) (f .written-most), ap length (p .leaves) ∙ f .long)
+  where
+    go : (y : ℕ) → y ≡ feeding b part 0 0 out .fed .used → feeding b part 0 0 out .fed .used ≤ 0 + length part → y ≤ length part
+    go y e h = omega arith
+
+    again : (y : ℕ) → y ≡ feeding b part 0 0 out .fed .written → feeding b part 0 0 out .fed .written ≤ length out → y ≤ length out
+    again y e h = omega arith
+
+pub ended-fits : (b : Bench) (out : List ℕ) (r : Finished) (after : List ℕ) → Ends (finished b out) (finishedBytes b out) r after → r .written ≤ length after
+unfolding finishedBytes
+ended-fits b out r after p = go (r .written) (λ i. p .gives i .written) (finished-fits b out) (ap length (p .leaves) ∙ long (ltb (length out) 64))
+  where
+    long : (t : Bool) → length (cond t out (sets out 0 (ending b))) ≡ length out
+    long true = refl
+    long false = length-sets out 0 (ending b)
+
+    go : (y : ℕ) → y ≡ finished b out .written → finished b out .written ≤ length out → length after ≡ length out → y ≤ length after
+    go y e h l = omega arith

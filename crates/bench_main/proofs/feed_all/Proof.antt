@@ -1,11 +1,13 @@
 -- `bench_main::feed_all` is safe and ends: each turn uses a byte, and what is written fits the buffer. Assumes nothing.
 use borrow.Author.Needs.{needs}
-use Prim.Native.Nat.{_-_, _≤_}
+use Prim.Native.Nat.{ℕ, _-_, _≤_}
 use mathlib.Core.Path.{_≡_, _∙_, sym}
+use mathlib.Core.List.{List}
 use native.Mathlib.Omega.{arith}
-use lib.ListN.{length}
+use native.Mathlib.Nat.{min-le-left}
+use lib.ListN.{length, take, drop, length-take}
 use lib.Seq.{length-take-le}
-use Rattle.bench_main.proofs.FedFits.{fed-fits, rest-long}
+use Rattle.bench.proofs.Fits.{fed-fits}
 use Rattle.bench_main.proofs.feed_all.Statement.{statement}
 use Rattle.bench_main.proofs.feed_all.Tie as tie
 
@@ -14,6 +16,10 @@ Inv-loop s bench₀ out₀ i₀ bench out i = (i ≤ length s) × (length out �
 
 abbrev μ-loop : tie.MeasureT-loop
 μ-loop s bench₀ out₀ i₀ bench out i = length s - i
+
+-- what is left of a piece
+rest-long : (s : List ℕ) (i : ℕ) → length (take (length s - i) (drop i s)) ≤ length s - i
+rest-long s i = let a = length-take (length s - i) (drop i s) in omega (arith, min-le-left (length s - i) (length (drop i s)))
 
 loop-holds : tie.Need-loop-holds Inv-loop μ-loop
 loop-holds c = search needs

@@ -2,7 +2,7 @@
 use borrow.Author.Needs.{needs}
 use mathlib.Core.Path.{sym}
 use lib.Seq.{length-take-le}
-use Rattle.bench_main.proofs.FedFits.{ended-fits}
+use Rattle.bench.proofs.Fits.{ended-fits}
 use Rattle.bench_main.proofs.main.Statement.{statement}
 use Rattle.bench_main.proofs.main.Tie as tie
 
