@@ -9,6 +9,7 @@ use lib.Dec.{ltb, eqb}
 use lib.ListN.{length, getD, drop, drop-of-length-le}
 use lib.Seq.{sets}
 use Rattle.laws.proofs.ScanLaws.{next-drop}
+use Rattle.bench.specs.declared.Night.{Night}
 use Rattle.bench.specs.declared.Bench.{Bench}
 use Rattle.bench.specs.declared.Turned.{Turned}
 use Rattle.bench.specs.Text.{Puts}
@@ -18,6 +19,10 @@ use Rattle.bench.specs.Bench.{Step, writes, isOver, longer, plain, turne
 -- what feed hands back when it stops
 abbrev stopped : Bench → ℕ → ℕ → List ℕ → Feeding
 stopped b used at out = record { fed = record { bench = b; used = used; written = at; over = isOver b }; bytes = out }
+
+-- a bench whose night is kept beside it
+abbrev pub holding : Night → Bench → Bench
+holding s b = record { night = s; posts = b .posts; places = b .places; number = b .number; mode = b .mode; line = b .line }
 
 module _ (input : List ℕ) (b : Bench) (used at : ℕ) (out : List ℕ) where
   pub feed-end : length input ≤ used → feeding b (drop used input) used at out ≡ stopped b used at out

@@ -1,44 +1,64 @@
 -- Steps of the calls, from what the code's tests say. Assumes nothing.
-use mathlib.Core.Path.{_≡_, ap, _∙_, sym}
-use mathlib.Core.Bool.{true, false, not, cond, _&&_}
+use mathlib.Core.Path.{_≡_, refl, ap, _∙_, sym, subst}
+use mathlib.Core.Bool.{true, false, cond, _&&_}
 use mathlib.Core.List.{List, []}
-use Prim.Native.Nat.{ℕ, _+_, _≤_, _<_}
+use Prim.Native.Nat.{ℕ, _+_, _*_, _≤_, _<_}
 use native.Mathlib.Omega.{arith}
 use native.Mathlib.Nat.{min-le-left}
-use borrow.Author.Tests.{eq-eqb, ne-eqb, not-true, not-false, lt-ltb, le-ltb, le-leb, lt-leb}
+use borrow.Author.Tests.{eq-eqb, ne-eqb, le-leb, lt-leb}
 use lib.Dec.{leb, ltb, eqb}
-use lib.ListN.{length, getD, set, take, length-take, drop-of-length-le}
-use lib.Seq.{slice, take-all}
-use Rattle.laws.proofs.Ladders.{on, off, one-off, two-off, both-on}
+use lib.ListN.{length, getD, set, take, drop, length-take, drop-of-length-le}
+use lib.Seq.{slice, take-all, set-getD}
+use Rattle.laws.proofs.Ladders.{on, off}
 use Rattle.laws.proofs.ScanLaws.{next}
-use Rattle.laws.proofs.StoreLaws.{within}
 use Rattle.frame.specs.declared.Message.{Message}
 use Rattle.frame.specs.Message.{blank}
 use Rattle.post.specs.declared.Post.{Post}
 use Rattle.bench.specs.declared.Night.{Night}
 use Rattle.bench.specs.declared.calls.Called.{Called}
-use Rattle.bench.specs.declared.calls.Ran.{Ran}
+use Rattle.bench.specs.declared.calls.Change.{Change}
+use Rattle.bench.specs.declared.lines.Command.{Command}
 use Rattle.bench.specs.declared.lines.Command.the-variants.{Deliver}
-use Rattle.bench.specs.Night.{receives, opened, postOf, after, seek, nextOf, passed, refused, answered, offered, ran}
+use Rattle.bench.specs.Night.{receives, opened, postOf, after, seek, nextOf, passed, Ran, refused, answered, offered, ran}
+use Rattle.bench.specs.Inside.{calleeOf, pairOf, having, readTo, Changes}
 
-module _ (s : Night) (p : ℕ) (c : Called) where
-  abbrev quiet : Night
-  quiet = record { posts = set (s .posts) p (c .answer .post); sent = s .sent; count = s .count; read = s .read }
+-- a record that stands there already
+own-post : (posts : List Post) (at : ℕ) (post : Post) → getD posts at (opened 0 0 0) ≡ post → set posts at post ≡ posts
+own-post posts at post e = ap (set posts at) (sym e) ∙ set-getD posts at (opened 0 0 0)
 
-  nothing-sent : c .answer .wrote && ltb (s .count) 256 ≡ false → quiet ≡ after s p c
-  unfolding after
-  nothing-sent e = rw e
+own-read : (reads : List ℕ) (pair read : ℕ) → getD reads pair 0 ≡ read → set reads pair read ≡ reads
+own-read reads pair read e = ap (set reads pair) (sym e) ∙ set-getD reads pair 0
 
-  pub unwritten : not (c .answer .wrote) ≡ true → quiet ≡ after s p c
-  unwritten e = nothing-sent (one-off (c .answer .wrote) (ltb (s .count) 256) (not-true (c .answer .wrote) e))
+module _ (sent : List Message) (count read : ℕ) where
+  -- nothing changes
+  pub unchanged : (post : Post) (number at pair : ℕ)
+      → Changes (λ s. refused s number) at pair post sent count read
+      (record { post = post; to = 0; message = getD sent 0 blank; count = count; read = read; number = number; granted = false })
+  unchanged post number at pair = record {
+    to = omega arith;
+    makes = λ posts reads e f. λ i. refused (having (own-post posts at post e i) (set-getD sent 0 blank i) count (own-read reads pair read f i)) number;
+  }
 
-  pub no-room : 256 ≤ s .count → quiet ≡ after s p c
-  no-room h = nothing-sent (two-off (c .answer .wrote) (ltb (s .count) 256) (le-ltb (s .count) 256 h))
+  module _ (c : Called) (at pair old : ℕ) (post : Post) where
+    abbrev calls : Night → Ran
+    calls s = answered (readTo (after s at c) pair read) c
 
-  pub one-sent : not (c .answer .wrote) ≡ false → s .count < 256
-      → record { posts = set (s .posts) p (c .answer .post); sent = set (s .sent) (s .count) (c .message); count = s .count + 1; read = s .read } ≡ after s p c
-  unfolding after
-  one-sent e h = rw (both-on (c .answer .wrote) (ltb (s .count) 256) (not-false (c .answer .wrote) e) (lt-ltb (s .count) 256 h))
+    pub sent-one : c .answer .wrote && ltb count 256 ≡ true → count < 256
+        → Changes calls at pair post sent count old
+        (record { post = c .answer .post; to = count; message = c .message; count = count + 1; read = read; number = c .answer .number; granted = c .answer .granted })
+    unfolding after
+    sent-one e h = record { to = h; makes = λ posts reads f g. rw e }
+
+    pub sent-none : c .answer .wrote && ltb count 256 ≡ false
+        → Changes calls at pair post sent count old
+        (record { post = c .answer .post; to = 0; message = getD sent 0 blank; count = count; read = read; number = c .answer .number; granted = c .answer .granted })
+    unfolding after
+    sent-none e = record {
+      to = omega arith;
+      makes = λ posts reads f g.
+          (λ i. answered (having (set posts at (c .answer .post)) (set-getD sent 0 blank i) count (set reads pair read)) c)
+          ∙ rw e;
+    }
 
 module _ (p : ℕ) (l : List Message) (i n : ℕ) where
   pub seek-here : i < n → n ≤ length l → getD l i blank .sender ≡ p → i ≡ seek p i (slice i n l)
@@ -74,26 +94,57 @@ absent = record {
   order = 0;
 }
 
-module _ (s : Night) (p q i : ℕ) (c : Called) (d : Post) (h : q < length (s .posts)) (e : c ≡ receives (getD (s .posts) q d) (getD (s .sent) i blank)) (n : Night) where
-  received : c ≡ receives (postOf s q) (getD (s .sent) i blank)
-  received = e ∙ ap (λ (x : Post). receives x (getD (s .sent) i blank)) (within (s .posts) q d (opened 0 0 0) h)
+-- ---- changes of a night
 
-  abbrev offers : Called → Ran
-  offers c = answered (cond (eqb (c .answer .number) 0) (passed (after s q c) p q i) (after s q c)) c
+-- a change by one function is a change by another that does the same
+pub changes-as : {f g : Night → Ran} {at pair : ℕ} {post : Post} {sent : List Message} {count read : ℕ} {h : Change} → Changes f at pair post sent count read h
+    → ((posts : List Post) (reads : List ℕ) → getD posts at (opened 0 0 0) ≡ post → getD reads pair 0 ≡ read → f (having posts sent count reads) ≡ g (having posts sent count reads))
+    → Changes g at pair post sent count read h
+changes-as p e = record { to = p .to; makes = λ posts reads x y. p .makes posts reads x y ∙ e posts reads x y }
 
-  pub accepted : c .answer .number ≡ 0 → n ≡ passed (after s q c) p q i → answered n c ≡ offered s p q i
-  unfolding offered
-  accepted z f = (λ j. answered (on (eqb (c .answer .number) 0) _ (after s q c) (eq-eqb (c .answer .number) 0 z) f j) c) ∙ ap offers received
+-- a command that is another by name
+pub of-command : (c d : Command) → c ≡ d → (post : Post) (sent : List Message) (count read : ℕ) (h : Change)
+    → Changes (λ s. ran s d) (calleeOf d) (pairOf d) post sent count read h → Changes (λ s. ran s c) (calleeOf c) (pairOf c) post sent count read h
+of-command c d e post sent count read h p = subst (λ (x : Command). Changes (λ s. ran s x) (calleeOf x) (pairOf x) post sent count read h) (sym e) p
 
-  pub stays-next : (c .answer .number ≡ 0 → ⊥) → n ≡ after s q c → answered n c ≡ offered s p q i
-  unfolding offered
-  stays-next z f = (λ j. answered (off (eqb (c .answer .number) 0) (passed (after s q c) p q i) _ (ne-eqb (c .answer .number) 0 z) f j) c) ∙ ap offers received
+module _ (s : Night) where
+  -- a read position that stays
+  still : (at pair read : ℕ) (c : Called) → getD (s .read) pair 0 ≡ read → answered (readTo (after s at c) pair read) c ≡ answered (after s at c) c
+  unfolding after
+  still at pair read c e = λ i. answered (having (after s at c .posts) (after s at c .sent) (after s at c .count) (own-read (s .read) pair read e i)) c
 
-module _ (s : Night) (p q i : ℕ) (e : i ≡ nextOf s p q) {r : Ran} where
-  pub none-next : 256 ≤ i → r ≡ refused s 15 → r ≡ ran s (Deliver p q)
-  unfolding ran
-  none-next h d = on (leb 256 (nextOf s p q)) _ _ (ap (leb 256) (sym e) ∙ le-leb 256 i h) d
+  -- a call on the record that stands there
+  pub called-on : (g : Post → Called) (at pair read : ℕ) (c : Called) (post : Post) → c ≡ g post → getD (s .posts) at (opened 0 0 0) ≡ post → getD (s .read) pair 0 ≡ read
+      → answered (readTo (after s at c) pair read) c ≡ answered (after s at (g (postOf s at))) (g (postOf s at))
+  called-on g at pair read c post d e f = still at pair read c f ∙ ap (λ (x : Called). answered (after s at x) x) (d ∙ ap g (sym e))
 
-  pub one-next : i < 256 → r ≡ offered s p q i → r ≡ ran s (Deliver p q)
-  unfolding ran
-  one-next h d = off (leb 256 (nextOf s p q)) _ _ (ap (leb 256) (sym e) ∙ lt-leb 256 i h) (d ∙ ap (offered s p q) e)
+  module _ (p q i : ℕ) (c : Called) (post : Post) (d : c ≡ receives post (getD (s .sent) i blank)) (e : getD (s .posts) q (opened 0 0 0) ≡ post) where
+    abbrev offers : Called → Ran
+    offers c = answered (cond (eqb (c .answer .number) 0) (passed (after s q c) p q i) (after s q c)) c
+
+    received : offers c ≡ offers (receives (postOf s q) (getD (s .sent) i blank))
+    received = ap offers (d ∙ ap (λ (x : Post). receives x (getD (s .sent) i blank)) (sym e))
+
+    pub accepted : c .answer .number ≡ 0 → answered (readTo (after s q c) (16 * p + q) (i + 1)) c ≡ offered s p q i
+    unfolding offered passed
+    accepted z = (λ j. answered (cond (sym (eq-eqb (c .answer .number) 0 z) j) (passed (after s q c) p q i) (after s q c)) c) ∙ received
+
+    pub stays-next : (c .answer .number ≡ 0 → ⊥) → (read : ℕ) → getD (s .read) (16 * p + q) 0 ≡ read → answered (readTo (after s q c) (16 * p + q) read) c ≡ offered s p q i
+    unfolding offered
+    stays-next z read f =
+        still q (16 * p + q) read c f
+        ∙ (λ j. answered (cond (sym (ne-eqb (c .answer .number) 0 z) j) (passed (after s q c) p q i) (after s q c)) c)
+        ∙ received
+
+  module _ (p q i read : ℕ) (e : i ≡ seek p read (drop read (take (s .count) (s .sent)))) (f : getD (s .read) (16 * p + q) 0 ≡ read) where
+    next-is : i ≡ nextOf s p q
+    unfolding nextOf
+    next-is = e ∙ ap (λ (k : ℕ). seek p k (drop k (take (s .count) (s .sent)))) (sym f)
+
+    pub none-next : 256 ≤ i → refused s 15 ≡ ran s (Deliver p q)
+    unfolding ran
+    none-next h = on (leb 256 (nextOf s p q)) _ _ (ap (leb 256) (sym next-is) ∙ le-leb 256 i h) refl
+
+    pub one-next : i < 256 → offered s p q i ≡ ran s (Deliver p q)
+    unfolding ran
+    one-next h = off (leb 256 (nextOf s p q)) _ _ (ap (leb 256) (sym next-is) ∙ lt-leb 256 i h) (ap (offered s p q) next-is)

@@ -2,20 +2,21 @@
 use mathlib.Core.Path.{_≡_, refl, ap, _∙_, sym}
 use mathlib.Core.Bool.{Bool, true, false, not, cond, _||_}
 use mathlib.Core.List.{List, [], _∷_, _++_, append-assoc}
-use Prim.Native.Nat.{ℕ, suc, _+_, _-_, _≤_}
+use Prim.Native.Nat.{ℕ, suc, _+_, _-_, _≤_, _<_}
 use native.Mathlib.Omega.{arith}
-use borrow.Author.Tests.{le-ltb}
+use borrow.Author.Tests.{le-ltb, lt-leb}
 use lib.Dec.{T, ltb, eqb, eqb→eq}
 use lib.ListN.{length, take, drop, length-append}
 use lib.Seq.{sets, length-sets}
 use Rattle.laws.proofs.StoreLaws.{take-sets}
 use Rattle.bench.specs.declared.Bench.{Bench}
+use Rattle.bench.specs.declared.Fed.{Fed}
 use Rattle.bench.specs.declared.lines.Header.{Header}
 use Rattle.bench.specs.declared.lines.Command.the-variants.{Unknown}
 use Rattle.bench.specs.Text.{badHeader, answerLine}
 use Rattle.bench.specs.Lines.{empty, kept, headerOf, commandOf}
 use Rattle.bench.specs.Night.{begun, ran}
-use Rattle.bench.specs.Bench.{Step, writes, isOver, over, longer, headed, answers, stops, turned, plain, stepped, Feeding, feeding, inPhases, lastOf, lastPiece, closed, ending, finished, finishedBytes}
+use Rattle.bench.specs.Bench.{Step, writes, isOver, over, longer, headed, answers, stops, turned, plain, stepped, Feeding, feeding, Feeds, inPhases, lastOf, lastPiece, closed, ending, finished, finishedBytes, Turns}
 use Rattle.bench.proofs.Putting.{answer-few, last-few}
 use Rattle.bench.proofs.Feeding.{roomy}
 
@@ -179,3 +180,24 @@ unfolding finished finishedBytes
 finish-runs b out h =
     let few = ending-few b in
     rw (le-ltb (length out) 64 h) (ap (λ (k : ℕ). take k (sets out 0 (ending b))) (let e : length (ending b) ≡ 0 + length (ending b) = omega arith in e) ∙ take-sets out 0 (ending b) (omega arith))
+
+module _ (b : Bench) (out : List ℕ) (k : b .mode < 2) (h : 64 ≤ length out) where
+  line-fed : feeding b (10 ∷ []) 0 0 out
+      ≡ record { fed = record { bench = turned b .bench; used = 0 + 1; written = 0 + length (turned b .text); over = isOver (turned b .bench) }; bytes = sets out 0 (turned b .text) }
+  unfolding feeding stepped plain
+  line-fed = rw (lt-leb 2 (b .mode) k, le-ltb (length out - 0) 64 (let z : 64 ≤ length out - 0 = omega arith in z))
+
+  -- a line that lacks its LF is answered as if it had one
+  pub fed-line : (f : Fed) (new : List ℕ) → Feeds (feeding b (10 ∷ []) 0 0 out) f new → Turns (turned b) out new 0 (record { bench = f .bench; at = f .written })
+  fed-line f new p =
+      let e = p .gives ∙ (λ i. line-fed i .fed) in
+      let o = p .leaves ∙ (λ i. line-fed i .bytes) in
+      let n : f .written ≡ 0 + length (turned b .text) = λ i. e i .written in
+      let few = turned-few b in
+      let m = few .0 in
+      record {
+        bench = λ i. e i .bench;
+        puts = record { next-place = n; bytes = o; long = ap length o ∙ length-sets out 0 (turned b .text) };
+        few = omega arith;
+        going = λ z. (let l = few .1 ((λ i. sym e i .bench .mode) ∙ z) in omega arith);
+      }

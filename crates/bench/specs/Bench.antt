@@ -113,6 +113,10 @@ pub record Ends (f : Finished) (bytes : List ℕ) (result : Finished) (after : L
 
 -- ---- inside
 
+-- a line of commands is whole
+abbrev pub asked : Bench → Bool
+asked b = not (eqb (b .mode) 0) && ltb (b .number) 256
+
 -- a turn made, and its text put from a place on, in at most 64 bytes, or 32 where it is not over
 pub record Turns (s : Step) (old new : List ℕ) (at : ℕ) (r : Turned) : Type 0 where
   pub bench : r .bench ≡ s .bench

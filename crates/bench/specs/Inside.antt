@@ -1,9 +1,14 @@
--- What functions inside the crate promise each other: the one header or command that a line can be, by its digits.
-use Rattle.laws.specs.Words.{Bool, cond, _&&_, List, ℕ, _+_, _-_, _*_, _<_, leb, ltb, eqb, getD}
+-- What functions inside the crate promise each other: the one header or command that a line can be, by its digits; what a command changes.
+use Rattle.laws.specs.Words.{Bool, cond, _&&_, List, _≡_, ℕ, _+_, _-_, _*_, _<_, leb, ltb, eqb, getD, set}
+use Rattle.frame.specs.declared.Message.{Message}
+use Rattle.post.specs.declared.Post.{Post}
+use Rattle.bench.specs.declared.Night.{Night}
+use Rattle.bench.specs.declared.calls.Change.{Change}
 use Rattle.bench.specs.declared.lines.Header.{Header}
 use Rattle.bench.specs.declared.lines.Command.{Command}
 use Rattle.bench.specs.declared.lines.Command.the-variants.{Take, Return, Deliver, Unknown}
 use Rattle.bench.specs.Lines.{heading}
+use Rattle.bench.specs.Night.{opened, Ran}
 
 -- the digit of a byte; 10 where it is none
 unfoldable pub digit : ℕ → ℕ
@@ -36,3 +41,39 @@ Safe (Take p) = p < 16
 Safe (Return p) = p < 16
 Safe (Deliver p q) = (p < 16) × (q < 16)
 Safe Unknown = Unit
+
+-- ---- a command changes one record, one place of the messages sent and one read position at most
+
+-- the post that it calls
+abbrev pub calleeOf : Command → ℕ
+calleeOf (Take p) = p
+calleeOf (Return p) = p
+calleeOf (Deliver p q) = q
+calleeOf Unknown = 0
+
+-- the place of its read position
+abbrev pub pairOf : Command → ℕ
+pairOf (Take p) = 0
+pairOf (Return p) = 0
+pairOf (Deliver p q) = 16 * p + q
+pairOf Unknown = 0
+
+abbrev pub having : List Post → List Message → ℕ → List ℕ → Night
+having posts sent count read = record { posts = posts; sent = sent; count = count; read = read }
+
+abbrev pub changed : Night → ℕ → ℕ → Change → Ran
+changed s at pair h = record {
+  night = having (set (s .posts) at (h .post)) (set (s .sent) (h .to) (h .message)) (h .count) (set (s .read) pair (h .read));
+  number = h .number;
+  granted = h .granted;
+}
+
+-- the change is what f does to every night that has these messages sent, this record at one place and this read position at another
+pub record Changes (f : Night → Ran) (at pair : ℕ) (post : Post) (sent : List Message) (count read : ℕ) (h : Change) : Type 0 where
+  pub to : h .to < 256
+  pub makes : (posts : List Post) (reads : List ℕ) → getD posts at (opened 0 0 0) ≡ post → getD reads pair 0 ≡ read
+      → changed (having posts sent count reads) at pair h ≡ f (having posts sent count reads)
+
+-- a read position set
+abbrev pub readTo : Night → ℕ → ℕ → Night
+readTo s pair i = having (s .posts) (s .sent) (s .count) (set (s .read) pair i)

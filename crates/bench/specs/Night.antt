@@ -1,5 +1,5 @@
 -- A night: the records, the messages sent, and how far each post has read of each other's. What a command does to it.
-use Rattle.laws.specs.Words.{false, cond, _&&_, List, [], _∷_, map, ℕ, _+_, _*_, leb, ltb, eqb, getD, take, drop, replicate, set}
+use Rattle.laws.specs.Words.{Bool, false, cond, _&&_, List, [], _∷_, map, ℕ, _+_, _*_, leb, ltb, eqb, getD, take, drop, replicate, set}
 use Rattle.frame.specs.declared.Message.{Message}
 use Rattle.frame.specs.Message.{blank, by}
 use Rattle.frame.specs.Frame.{fieldsOf, bytesAfter}
@@ -7,7 +7,6 @@ use Rattle.post.specs.declared.Post.{Post}
 use Rattle.post.specs.Calls.{Outcome, started, took, gaveBack, received}
 use Rattle.bench.specs.declared.Night.{Night}
 use Rattle.bench.specs.declared.calls.Called.{Called}
-use Rattle.bench.specs.declared.calls.Ran.{Ran}
 use Rattle.bench.specs.declared.lines.Command.{Command}
 use Rattle.bench.specs.declared.lines.Command.the-variants.{Take, Return, Deliver, Unknown}
 use Rattle.laws.specs.Search.{from}
@@ -69,6 +68,12 @@ unfoldable pub passed : Night → ℕ → ℕ → ℕ → Night
 passed s p q i = record { posts = s .posts; sent = s .sent; count = s .count; read = set (s .read) (16 * p + q) (i + 1) }
 
 -- ---- commands
+
+-- the night after a command, and what the command gave back
+pub record Ran : Type 0 where
+  pub night : Night
+  pub number : ℕ
+  pub granted : Bool
 
 abbrev pub refused : Night → ℕ → Ran
 refused s n = record { night = s; number = n; granted = false }

@@ -5,10 +5,13 @@ use frame::Message;
 use post::Answer;
 use post::Post;
 ghost use mathlib.Core.Path.{_≡_};
-ghost use Prim.Native.Nat.{_≤_, _<_, _+_, _*_};
+ghost use mathlib.Core.Bool.{true, _&&_};
+ghost use Prim.Native.Nat.{ℕ, _≤_, _<_, _+_, _*_};
+ghost use lib.Dec.{ltb};
 ghost use lib.ListN.{take, drop};
-ghost use Rattle.bench.specs.Night.{takes, givesBack, receives, opened, begun, after, seek, nextOf, passed, refused, answered, offered, ran};
-ghost use Rattle.bench.specs.Inside.{Safe};
+ghost use Rattle.post.specs.declared.Post.{Post};
+ghost use Rattle.bench.specs.Night.{takes, givesBack, receives, opened, begun, after, seek, refused, answered, offered, ran};
+ghost use Rattle.bench.specs.Inside.{Safe, calleeOf, pairOf, readTo, Changes};
 
 const BLANK: Message = Message {
     kind: 0,
@@ -22,9 +25,14 @@ pub(crate) struct Called {
     pub message: Message,
 }
 
-// What a command came to.
-pub(crate) struct Ran {
-    pub night: Night,
+// What a command changes: the record of the post that it calls, place `to` of the messages sent, how many these are, and how far the pair has
+// read. Where it changes none of them, this is what stands there.
+pub(crate) struct Change {
+    pub post: Post,
+    pub to: usize,
+    pub message: Message,
+    pub count: u16,
+    pub read: u16,
     pub number: u8,
     pub granted: bool,
 }
@@ -103,121 +111,121 @@ fn seek(sent: [Message; 256], i: usize, n: usize, p: u8) -> usize
     256
 }
 
-impl Night {
-    fn next(self, p: u8, q: u8) -> usize
-        requires { ⌜ (p < 16) × (q < 16) ⌝ }
-        ensures { λ r. ⌜ r ≡ nextOf self p q ⌝ }
-    {
-        let read = self.read;
-        let sent = self.sent;
-        let i = read[16 * p as usize + q as usize] as usize;
-        let n = self.count as usize;
-        if n <= 256 {
-            return seek(sent, i, n, p);
-        }
-        seek(sent, i, 256, p)
+// The place of the next message of p, from place `read` on.
+fn next(sent: [Message; 256], count: u16, read: u16, p: u8) -> usize
+    ensures { λ r. ⌜ r ≡ seek p read (drop read (take count sent)) ⌝ }
+{
+    let n = count as usize;
+    if n <= 256 {
+        return seek(sent, read as usize, n, p);
     }
+    seek(sent, read as usize, 256, p)
+}
 
-    // The night after a call on post p.
-    fn after(mut self, p: usize, called: Called) -> Self
-        requires { ⌜ p < 16 ⌝ }
-        ensures { λ r. ⌜ r ≡ after self p called ⌝ }
-    {
-        let a = called.answer;
-        let post = a.post;
-        self.posts[p] = post;
-        if !a.wrote {
-            return self;
-        }
-        let at = self.count as usize;
-        if 256 <= at {
-            return self;
-        }
-        let m = called.message;
-        self.sent[at] = m;
-        self.count = self.count + 1;
-        self
+fn refused(post: Post, sent: [Message; 256], count: u16, read: u16, number: u8) -> Change
+    ensures { λ r. ⌜ ((at pair : ℕ) → Changes (λ s. refused s number) at pair post sent count read r) ⌝ }
+{
+    let message = sent[0];
+    Change {
+        post,
+        to: 0,
+        message,
+        count,
+        read,
+        number,
+        granted: false,
     }
+}
 
-    // Post q has accepted the message of p at place i.
-    fn pass(mut self, p: u8, q: u8, i: usize) -> Self
-        requires { ⌜ (p < 16) × (q < 16) × (i < 256) ⌝ }
-        ensures { λ r. ⌜ r ≡ passed self p q i ⌝ }
-    {
-        let at = 16 * p as usize + q as usize;
-        self.read[at] = (i + 1) as u16;
-        self
+fn sends(wrote: bool, count: u16) -> bool
+    ensures { λ r. ⌜ (r ≡ (wrote && ltb count 256)) × (r ≡ true → count < 256) ⌝ }
+{
+    if !wrote {
+        return false;
     }
+    count < 256
+}
 
-    fn offer(self, p: u8, q: u8, i: usize) -> Ran
-        requires { ⌜ (p < 16) × (q < 16) × (i < 256) ⌝ }
-        ensures { λ r. ⌜ r ≡ offered self p q i ⌝ }
-    {
-        let at = q as usize;
-        let post = self.posts[at];
-        let m = self.sent[i];
-        let called = receive(post, m);
-        let a = called.answer;
-        let next = self.after(at, called);
-        if a.number == 0 {
-            return Ran {
-                night: next.pass(p, q, i),
-                number: a.number,
-                granted: a.granted,
-            };
-        }
-        Ran {
-            night: next,
+// After a call, with this read position from then on.
+fn after(sent: [Message; 256], count: u16, read: u16, called: Called) -> Change
+    ensures { λ r. ⌜ ((at pair old : ℕ) (post : Post) → Changes (λ s. answered (readTo (after s at called) pair read) called) at pair post sent count old r) ⌝ }
+{
+    let a = called.answer;
+    let post = a.post;
+    if sends(a.wrote, count) {
+        let message = called.message;
+        return Change {
+            post,
+            to: count as usize,
+            message,
+            count: count + 1,
+            read,
             number: a.number,
             granted: a.granted,
-        }
+        };
     }
-
-    fn refused(self, number: u8) -> Ran
-        ensures { λ r. ⌜ r ≡ refused self number ⌝ }
-    {
-        Ran {
-            night: self,
-            number,
-            granted: false,
-        }
+    let message = sent[0];
+    Change {
+        post,
+        to: 0,
+        message,
+        count,
+        read,
+        number: a.number,
+        granted: a.granted,
     }
+}
 
-    fn answered(self, p: usize, called: Called) -> Ran
-        requires { ⌜ p < 16 ⌝ }
-        ensures { λ r. ⌜ r ≡ answered (after self p called) called ⌝ }
-    {
-        let a = called.answer;
-        Ran {
-            night: self.after(p, called),
-            number: a.number,
-            granted: a.granted,
-        }
+fn offer(post: Post, sent: [Message; 256], count: u16, read: u16, i: usize) -> Change
+    requires { ⌜ i < 256 ⌝ }
+    ensures { λ r. ⌜ ((p q : ℕ) → Changes (λ s. offered s p q i) q (16 * p + q) post sent count read r) ⌝ }
+{
+    let m = sent[i];
+    let called = receive(post, m);
+    let a = called.answer;
+    if a.number == 0 {
+        return after(sent, count, (i + 1) as u16, called);
     }
+    after(sent, count, read, called)
+}
 
-    pub(crate) fn run(self, c: Command) -> Ran
-        requires { ⌜ Safe c ⌝ }
-        ensures { λ r. ⌜ r ≡ ran self c ⌝ }
-    {
-        match c {
-            Command::Take(p) => {
-                let at = p as usize;
-                let post = self.posts[at];
-                self.answered(at, take(post))
+pub(crate) fn callee(c: Command) -> usize
+    requires { ⌜ Safe c ⌝ }
+    ensures { λ r. ⌜ (r ≡ calleeOf c) × (r < 16) ⌝ }
+{
+    match c {
+        Command::Take(p) => p as usize,
+        Command::Return(p) => p as usize,
+        Command::Deliver(_, q) => q as usize,
+        Command::Unknown => 0,
+    }
+}
+
+pub(crate) fn pair(c: Command) -> usize
+    requires { ⌜ Safe c ⌝ }
+    ensures { λ r. ⌜ (r ≡ pairOf c) × (r < 256) ⌝ }
+{
+    match c {
+        Command::Take(_) => 0,
+        Command::Return(_) => 0,
+        Command::Deliver(p, q) => 16 * p as usize + q as usize,
+        Command::Unknown => 0,
+    }
+}
+
+pub(crate) fn run(c: Command, post: Post, sent: [Message; 256], count: u16, read: u16) -> Change
+    ensures { λ r. ⌜ Changes (λ s. ran s c) (calleeOf c) (pairOf c) post sent count read r ⌝ }
+{
+    match c {
+        Command::Take(_) => after(sent, count, read, take(post)),
+        Command::Return(_) => after(sent, count, read, give_back(post)),
+        Command::Deliver(p, _) => {
+            let i = next(sent, count, read, p);
+            if 256 <= i {
+                return refused(post, sent, count, read, 15);
             }
-            Command::Return(p) => {
-                let at = p as usize;
-                let post = self.posts[at];
-                self.answered(at, give_back(post))
-            }
-            Command::Deliver(p, q) => {
-                let i = self.next(p, q);
-                if 256 <= i {
-                    return self.refused(15);
-                }
-                self.offer(p, q, i)
-            }
-            Command::Unknown => self.refused(16),
+            offer(post, sent, count, read, i)
         }
+        Command::Unknown => refused(post, sent, count, read, 16),
     }
 }

@@ -7,13 +7,13 @@ use frame::Message;
 use lines::Command;
 use post::Post;
 ghost use mathlib.Core.Path.{_≡_};
-ghost use mathlib.Core.Bool.{not, _&&_, _||_};
+ghost use mathlib.Core.Bool.{false, not, _&&_, _||_};
 ghost use Prim.Native.Nat.{_≤_, _<_, _+_};
 ghost use lib.Dec.{leb, ltb, eqb};
 ghost use lib.ListN.{length};
 ghost use Rattle.laws.specs.Below.{one?};
 ghost use Rattle.bench.specs.Text.{Puts};
-ghost use Rattle.bench.specs.Bench.{inPhases, lastOf, unfed, headed, answers, stops, turned, lastPiece, feeding, Feeds, finished, finishedBytes, Ends, Turns};
+ghost use Rattle.bench.specs.Bench.{inPhases, lastOf, unfed, headed, stops, asked, turned, lastPiece, feeding, Feeds, finished, finishedBytes, Ends, Turns};
 
 // The line being read: its first 8 bytes, and how many of these there are. No text of a command or header has 8.
 pub struct Line {
@@ -61,6 +61,9 @@ pub(crate) struct Turned {
     pub bench: Bench,
     pub at: usize,
 }
+
+// So many lines of commands are answered.
+const COMMANDS: u16 = 256;
 
 fn one_in(k: u8, phase: u8, lo: u8, hi: u8) -> u8
     requires { ⌜ k < 255 ⌝ }
@@ -118,7 +121,17 @@ fn is_plain(mode: u8, number: u16, b: u8) -> bool
     if mode == 0 {
         return true;
     }
-    number < 256
+    number < COMMANDS
+}
+
+// A line of commands is whole.
+fn is_asked(mode: u8, number: u16) -> bool
+    ensures { λ r. ⌜ r ≡ (not (eqb mode 0) && ltb number 256) ⌝ }
+{
+    if mode == 0 {
+        return false;
+    }
+    number < COMMANDS
 }
 
 // A line is left, or even an empty one counts.
@@ -173,27 +186,6 @@ impl Bench {
         Turned { bench, at }
     }
 
-    fn answer(mut self, out: &mut [u8], at: usize) -> Turned
-        requires { ⌜ (at + 64 ≤ length (now out)) × (self .number < 256) ⌝ }
-        ensures { λ r. ⌜ Turns (answers self) (now (out .entry)) (now (out .exit)) at r ⌝ }
-    {
-        let line = self.line;
-        let c = lines::read_command(line, self.posts);
-        let night = self.night;
-        let r = night.run(c);
-        let next = r.night;
-        let blank = lines::empty();
-        self.night = next;
-        self.number = self.number + 1;
-        self.mode = 1;
-        self.line = blank;
-        let end = text::answer(out, at, self.number, c, r.number, r.granted);
-        Turned {
-            bench: self,
-            at: end,
-        }
-    }
-
     fn stop(mut self, out: &mut [u8], at: usize) -> Turned
         requires { ⌜ at + 64 ≤ length (now out) ⌝ }
         ensures { λ r. ⌜ Turns (stops self) (now (out .entry)) (now (out .exit)) at r ⌝ }
@@ -208,29 +200,29 @@ impl Bench {
         }
     }
 
-    // A line is whole, or line 257 has a byte.
+    // The first line is whole, or line 257 has a byte.
     fn turn(self, out: &mut [u8], at: usize) -> Turned
-        requires { ⌜ at + 64 ≤ length (now out) ⌝ }
+        requires { ⌜ (at + 64 ≤ length (now out)) × (asked self ≡ false) ⌝ }
         ensures { λ r. ⌜ Turns (turned self) (now (out .entry)) (now (out .exit)) at r ⌝ }
     {
         if self.mode == 0 {
             return self.head(out, at);
         }
-        if self.number < 256 {
-            return self.answer(out, at);
-        }
         self.stop(out, at)
     }
 
     // Uses bytes as long as it is not over and there is room for what any byte can write.
+    // A command is answered here, and sets what it changes in a night that is a variable of its own: handed to a function, the night would be copied.
     pub fn feed(self, input: &[u8], out: &mut [u8]) -> Fed
         ensures { λ r. ⌜ Feeds (feeding self (now (input .entry)) 0 0 (now (out .entry))) r (now (out .exit)) ⌝ }
     {
         let mut bench = self;
+        let mut night = self.night;
         let mut used = 0;
         let mut written = 0;
         while used < input.len() {
             if is_stop(bench.mode, out.len() - written) {
+                bench.night = night;
                 return Fed {
                     bench,
                     used,
@@ -239,18 +231,42 @@ impl Bench {
                 };
             }
             let b = input[used];
+            let line = bench.line;
             if is_plain(bench.mode, bench.number, b) {
-                let line = bench.line;
                 let next = lines::push(line, b);
                 bench.line = next;
+            } else if is_asked(bench.mode, bench.number) {
+                let c = lines::read_command(line, bench.posts);
+                let at = calls::callee(c);
+                let pair = calls::pair(c);
+                let post = night.posts[at];
+                let sent = night.sent;
+                let read = night.read[pair];
+                let r = calls::run(c, post, sent, night.count, read);
+                let next = r.post;
+                let to = r.to;
+                let message = r.message;
+                let blank = lines::empty();
+                night.posts[at] = next;
+                night.sent[to] = message;
+                night.count = r.count;
+                night.read[pair] = r.read;
+                bench.number = bench.number + 1;
+                bench.mode = 1;
+                bench.line = blank;
+                written = text::answer(out, written, bench.number, c, r.number, r.granted);
             } else {
+                bench.night = night;
                 let t = bench.turn(out, written);
                 let next = t.bench;
+                let other = next.night;
                 bench = next;
+                night = other;
                 written = t.at;
             }
             used += 1;
         }
+        bench.night = night;
         Fed {
             bench,
             used,
@@ -261,12 +277,17 @@ impl Bench {
 
     // The last line of the input may lack its LF.
     fn last_piece(self, out: &mut [u8]) -> Turned
-        requires { ⌜ 64 ≤ length (now out) ⌝ }
+        requires { ⌜ (64 ≤ length (now out)) × (self .mode < 2) ⌝ }
         ensures { λ r. ⌜ Turns (lastPiece self) (now (out .entry)) (now (out .exit)) 0 r ⌝ }
     {
         let line = self.line;
         if is_pending(self.mode, line.len) {
-            return self.turn(out, 0);
+            let f = self.feed(b"\n", out);
+            let bench = f.bench;
+            return Turned {
+                bench,
+                at: f.written,
+            };
         }
         Turned { bench: self, at: 0 }
     }

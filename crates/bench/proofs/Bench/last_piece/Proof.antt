@@ -2,22 +2,30 @@
 use borrow.Author.Needs.{needs}
 use mathlib.Core.Path.{refl, _∙_, sym}
 use native.Mathlib.Omega.{arith}
+use denote.Ref.{now}
 use Rattle.bench.proofs.Turning.{put-nothing, turns-as}
 use Rattle.bench.proofs.Feeding.{pending, none-pending}
+use Rattle.bench.proofs.Running.{fed-line}
 use Rattle.bench.proofs.Bench.last_piece.Statement.{statement}
 use Rattle.bench.proofs.Bench.last_piece.Tie as tie
 
 is-pending-requires : tie.Need-is-pending-requires
 is-pending-requires c κs = search needs
 
-turn-requires : tie.Need-turn-requires
-turn-requires c κs = search needs
+slice-aggregate-feed : tie.Need-slice-aggregate-feed
+slice-aggregate-feed c = search needs
+
+feed-requires : tie.Need-feed-requires
+feed-requires c κs = search needs
 
 same-length : tie.Need-same-length
 same-length c = search needs
 
 returns : tie.Need-returns
-returns c = turns-as (pending (c .before .before .before .before .before .before .before .before .args .self) (sym (c .before .before .before .before .before .is-pending .ensures) ∙ c .before .before .before .before .if1 .taken)) (c .before .before .turn .ensures)
+returns c =
+    let a = c .before .before .before .before .before .before .before .before .before .before .args in
+    let r = c .before .before .before .before .before .before .before .before .before .before .pre in
+    turns-as (pending (a .self) (sym (c .before .before .before .before .before .before .before .is-pending .ensures) ∙ c .before .before .before .before .before .before .if1 .taken)) (fed-line (a .self) (now (a .out)) (r .1) (r .0) (c .before .before .before .feed .result) _ (c .before .before .before .feed .ensures))
 
 returns-2 : tie.Need-returns-2
 returns-2 c =
@@ -26,4 +34,5 @@ returns-2 c =
 
 pub last-piece-spec : {M : Type 1} → statement M
 last-piece-spec =
-    tie.close (tie.spec is-pending-requires turn-requires same-length returns returns-2)
+    tie.close
+    (tie.spec is-pending-requires slice-aggregate-feed feed-requires same-length returns returns-2)

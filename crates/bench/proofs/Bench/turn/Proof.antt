@@ -1,6 +1,6 @@
--- `bench::Bench::turn` meets its contract, by mode and line number. Assumes nothing.
+-- `bench::Bench::turn` meets its contract, by mode. Assumes nothing.
 use borrow.Author.Needs.{needs}
-use Rattle.bench.proofs.Turning.{turns-as, turned-header, turned-command, turned-stop}
+use Rattle.bench.proofs.Turning.{turns-as, turned-header, turned-last}
 use Rattle.bench.proofs.Bench.turn.Statement.{statement}
 use Rattle.bench.proofs.Bench.turn.Tie as tie
 
@@ -13,34 +13,15 @@ same-length c = search needs
 returns : tie.Need-returns
 returns c = turns-as (turned-header (c .before .before .before .before .before .before .before .args .self) (c .before .before .before .before .if1 .taken)) (c .before .before .head .ensures)
 
-answer-requires : tie.Need-answer-requires
-answer-requires c κs = search needs
+stop-requires : tie.Need-stop-requires
+stop-requires c κs = search needs
 
 same-length-2 : tie.Need-same-length-2
 same-length-2 c = search needs
 
 returns-2 : tie.Need-returns-2
-returns-2 c = turns-as (turned-command (c .before .before .before .before .before .before .before .before .before .args .self) (c .before .before .before .before .before .before .if1 .left) (c .before .before .before .before .if2 .taken)) (c .before .before .answer .ensures)
-
-stop-requires : tie.Need-stop-requires
-stop-requires c κs = search needs
-
-same-length-3 : tie.Need-same-length-3
-same-length-3 c = search needs
-
-returns-3 : tie.Need-returns-3
-returns-3 c = turns-as (turned-stop (c .before .before .before .before .before .before .before .before .before .args .self) (c .before .before .before .before .before .before .if1 .left) (c .before .before .before .before .if2 .left)) (c .before .before .stop .ensures)
+returns-2 c = turns-as (turned-last (c .before .before .before .before .before .before .before .args .self) (c .before .before .before .before .if1 .left) (c .before .before .before .before .before .before .before .pre .1)) (c .before .before .stop .ensures)
 
 pub turn-spec : {M : Type 1} → statement M
 turn-spec =
-    tie.close
-    (tie.spec
-    head-requires
-    same-length
-    returns
-    answer-requires
-    same-length-2
-    returns-2
-    stop-requires
-    same-length-3
-    returns-3)
+    tie.close (tie.spec head-requires same-length returns stop-requires same-length-2 returns-2)
