@@ -10,6 +10,7 @@ use lib.ListN.{length, getD}
 use Rattle.laws.specs.Search.{from}
 use Rattle.laws.proofs.Ladders.{on, off}
 use Rattle.post.specs.declared.Post.{Post}
+use Rattle.bench.specs.declared.Line.{Line}
 use Rattle.bench.specs.declared.Bench.{Bench}
 use Rattle.bench.specs.declared.Turned.{Turned}
 use Rattle.bench.specs.declared.lines.Header.{Header}
@@ -89,6 +90,10 @@ module _ (b : Bench) where
 
 -- ---- a command, from what the code read and set
 
+-- the bench that has answered, with the line that is read then
+abbrev pub answering : Bench → ℕ → ℕ → Change → Line → Bench
+answering b at pair h line = record { night = changed (b .night) at pair h .night; posts = b .posts; places = b .places; number = b .number + 1; mode = 1; line = line }
+
 pub asked-is : (mode number : ℕ) → not (eqb mode 0) && ltb number 256 ≡ true → (mode ≡ 0 → ⊥) × (number < 256)
 asked-is mode number e = go (eqb mode 0) refl e
   where
@@ -105,7 +110,7 @@ module _ (b : Bench) (c : Command) (h : Change) (at pair : ℕ) (post : Post) (e
 
   pub asked-turns : asked b ≡ true → (old new : List ℕ) (place end : ℕ) → Puts old new place (answerLine (b .number + 1) c (h .number) (h .granted)) end
       → Turns (turned b) old new place
-      (record { bench = record { night = changed (b .night) at pair h .night; posts = b .posts; places = b .places; number = b .number + 1; mode = 1; line = empty }; at = end })
+      (record { bench = answering b at pair h empty; at = end })
   asked-turns t old new place end p =
       let a = asked-is (b .mode) (b .number) t in
       let n = answer-few (b .number + 1) c (h .number) (h .granted) in

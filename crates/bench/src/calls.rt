@@ -25,8 +25,8 @@ pub(crate) struct Called {
     pub message: Message,
 }
 
-// What a command changes: the record of the post that it calls, place `to` of the messages sent, how many these are, and how far the pair has
-// read. Where it changes none of them, this is what stands there.
+// What a command comes to: the record of the post that it calls, the message at place `to` of those sent, how many these are, how far the pair
+// has read, and what is given back. What does not change is as it stood.
 pub(crate) struct Change {
     pub post: Post,
     pub to: usize,
@@ -137,6 +137,7 @@ fn refused(post: Post, sent: [Message; 256], count: u16, read: u16, number: u8) 
     }
 }
 
+// What was written is sent, where there is a place.
 fn sends(wrote: bool, count: u16) -> bool
     ensures { λ r. ⌜ (r ≡ (wrote && ltb count 256)) × (r ≡ true → count < 256) ⌝ }
 {
@@ -189,6 +190,7 @@ fn offer(post: Post, sent: [Message; 256], count: u16, read: u16, i: usize) -> C
     after(sent, count, read, called)
 }
 
+// The post that a command calls.
 pub(crate) fn callee(c: Command) -> usize
     requires { ⌜ Safe c ⌝ }
     ensures { λ r. ⌜ (r ≡ calleeOf c) × (r < 16) ⌝ }
@@ -201,6 +203,7 @@ pub(crate) fn callee(c: Command) -> usize
     }
 }
 
+// The place of its read position.
 pub(crate) fn pair(c: Command) -> usize
     requires { ⌜ Safe c ⌝ }
     ensures { λ r. ⌜ (r ≡ pairOf c) × (r < 256) ⌝ }

@@ -1,6 +1,6 @@
 -- `bench::Bench::feed` meets its contract: what is left gives the same as all. Assumes nothing.
 use borrow.Author.Needs.{needs}
-use Prim.Native.Nat.{ℕ, _+_, _-_, _≤_}
+use Prim.Native.Nat.{ℕ, _-_, _≤_}
 use mathlib.Core.Path.{_≡_, refl, ap, _∙_, sym, subst}
 use mathlib.Core.List.{List}
 use mathlib.Core.Logic.{⊎-elim}
@@ -11,10 +11,10 @@ use Rattle.laws.proofs.StoreLaws.{within}
 use Rattle.post.proofs.Remaking.{length-mapped}
 use Rattle.bench.specs.Lines.{empty}
 use Rattle.bench.specs.Night.{opened}
-use Rattle.bench.specs.Inside.{Safe, changed}
+use Rattle.bench.specs.Inside.{Safe}
 use Rattle.bench.proofs.Nights.{absent}
 use Rattle.bench.proofs.Guessing.{command-safe}
-use Rattle.bench.proofs.Turning.{turned-long, asked-is, asked-turns}
+use Rattle.bench.proofs.Turning.{turned-long, answering, asked-is, asked-turns}
 use Rattle.bench.proofs.Feeding.{holding, feed-end, feed-stop, feed-plain, feed-turn, roomy}
 use Rattle.bench.proofs.Bench.feed.Statement.{statement}
 use Rattle.bench.proofs.Bench.feed.Tie as tie
@@ -144,7 +144,7 @@ loop-again c =
       ap length (v .2) ∙ w .inv .1,
       (λ i. length (v .4 i .posts)) ∙ w .inv .2,
       feed-plain (a .input .now) b (w .used) (w .written) (w .out) t b′ (c .if2 .written) (c .if2 .out) s (sym (c .before .is-plain .ensures) ∙ v .0 .taken) (v .2)
-          ((λ i. holding (v .4 i) (v .3 i)) ∙ (λ i. record { night = w .night; posts = w .bench .posts; places = w .bench .places; number = w .bench .number; mode = w .bench .mode; line = v .1 .ensures i })) (v .5)
+          ((λ i. holding (v .4 i) (v .3 i)) ∙ (λ i. record { night = b .night; posts = b .posts; places = b .places; number = b .number; mode = b .mode; line = v .1 .ensures i })) (v .5)
           ∙ w .inv .3,
     ))
     (λ o.
@@ -152,14 +152,17 @@ loop-again c =
     (λ v.
     let n = w .inv .2 in
     let k = v .4 .ensures .1 in
-    let u = subst (λ (o : List ℕ). Turns (turned b) (w .out) o (w .written) (record { bench = record { night = changed (w .night) (v .4 .result) (v .5 .result) (v .9 .result) .night; posts = b .posts; places = b .places; number = b .number + 1; mode = 1; line = empty }; at = v .15 .result })) (sym (v .18))
-    (asked-turns b (v .3 .result) (v .9 .result) (v .4 .result) (v .5 .result) _ (v .3 .ensures) (v .4 .ensures .0) (v .5 .ensures .0) (within (w .night .posts) (v .4 .result) (opened 0 0 0) absent (omega arith)) (v .9 .ensures)
+    let next = answering b (v .4 .result) (v .5 .result) (v .9 .result) in
+    let post = within (w .night .posts) (v .4 .result) (opened 0 0 0) absent (omega arith) in
+    let u =
+    subst (λ (o : List ℕ). Turns (turned b) (w .out) o (w .written) (record { bench = next empty; at = v .15 .result })) (sym (v .18))
+    (asked-turns b (v .3 .result) (v .9 .result) (v .4 .result) (v .5 .result) _ (v .3 .ensures) (v .4 .ensures .0) (v .5 .ensures .0) post (v .9 .ensures)
     (sym (v .1 .ensures) ∙ v .2 .taken) (w .out) _ (w .written) (v .15 .result) (v .15 .ensures)) in (
       (let x = v .21 in let y = u .few in let z = u .puts .long in omega arith),
       u .puts .long ∙ w .inv .1,
       (λ i. length (v .20 i .posts)) ∙ length-set (w .night .posts) (v .4 .result) (v .9 .result .post) ∙ w .inv .2,
       feed-turn (a .input .now) b (w .used) (w .written) (w .out) t b′ (c .if2 .written) (c .if2 .out) s (sym (c .before .is-plain .ensures) ∙ v .0 .left) _ u
-          ((λ i. holding (v .20 i) (v .19 i)) ∙ (λ i. record { night = changed (w .night) (v .4 .result) (v .5 .result) (v .9 .result) .night; posts = b .posts; places = b .places; number = b .number + 1; mode = 1; line = v .12 .ensures i })) (v .21)
+          ((λ i. holding (v .20 i) (v .19 i)) ∙ (λ i. next (v .12 .ensures i))) (v .21)
           ∙ w .inv .3,
     ))
     (λ v.
