@@ -2,13 +2,11 @@
 use crate::Line;
 use crate::text;
 ghost use mathlib.Core.Path.{_≡_};
-ghost use mathlib.Core.Bool.{_&&_};
 ghost use Prim.Native.Nat.{_≤_, _<_};
-ghost use lib.Dec.{leb};
 ghost use lib.ListN.{getD};
 ghost use Rattle.bench.specs.Text.{text};
 ghost use Rattle.laws.specs.Search.{same};
-ghost use Rattle.bench.specs.Lines.{empty, pushed, kept, inside, inRange, commandOf, heading, headerText, headerOf};
+ghost use Rattle.bench.specs.Lines.{empty, pushed, kept, inside, inRange, commandOf, headerText, headerOf};
 ghost use Rattle.bench.specs.Inside.{digit, numberAt, afterAt, guessHeader, guessCommand, headerFits};
 
 // What a line asks for.

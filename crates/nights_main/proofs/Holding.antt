@@ -13,7 +13,7 @@ use Rattle.bench.specs.declared.Bench.{Bench}
 use Rattle.bench.specs.declared.Fed.{Fed}
 use Rattle.bench.specs.declared.Finished.{Finished}
 use Rattle.bench.specs.Bench.{isOver, unfed, stepped, Feeding, feeding, Feeds, finished, finishedBytes, Ends}
-use Rattle.bench.specs.Session.{Session, fed, ended}
+use Rattle.bench.specs.Session.{fed, ended}
 use Rattle.bench.specs.Output.{output}
 use Rattle.bench.proofs.Fits.{fed-fits}
 use Rattle.bench.proofs.WholeNights.{whole-night}

@@ -1,8 +1,7 @@
 // The two functions that the radio firmware calls from C: include/fpm.h. Nothing but the calls.
 use frame::Message;
-ghost use mathlib.Core.Path.{_≡_};
 ghost use Rattle.frame.specs.Message.{msg};
-ghost use Rattle.frame.specs.Frame.{readFrame, Written};
+ghost use Rattle.frame.specs.Frame.{Written};
 ghost use Rattle.radio.specs.Radio.{Read};
 
 #[no_mangle]

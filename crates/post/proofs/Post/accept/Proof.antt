@@ -1,9 +1,7 @@
 use borrow.Author.Needs.{needs}
-use mathlib.Core.Path.{_≡_, _∙_, ap, subst, sym}
+use mathlib.Core.Path.{subst, sym}
 use native.Mathlib.Omega.{arith}
-use Prim.Native.Nat.{ℕ, _+_}
-use Rattle.frame.specs.Message.{msg}
-use Rattle.post.specs.Calls.{joined, came, writing, Gives}
+use Rattle.post.specs.Calls.{joined, came}
 use Rattle.post.specs.Inside.{Countable}
 use Rattle.post.proofs.SoundFacts.{sound-has}
 use Rattle.post.proofs.Shape.{Kept}
