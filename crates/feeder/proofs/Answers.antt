@@ -6,7 +6,7 @@ use Prim.Native.Nat.{ℕ, _+_, _≤_}
 use lib.Dec.{T, eqb, eqb→eq}
 use lib.ListN.{length}
 use lib.Ieee.Bits.{is-true}
-use Rattle.laws.specs.Ladder.{Row, refusal}
+use Rattle.laws.specs.Ladder.{Row, refusal, unless}
 use Rattle.laws.specs.Lists.{put}
 use Rattle.frame.specs.declared.Message.{Message}
 use Rattle.frame.specs.Message.{msg, counted, lastCounter, stamp}
@@ -15,7 +15,7 @@ use Rattle.frame.specs.Table.{takeTests, returnTests, receiveTests}
 use Rattle.frame.proofs.Passing.{take-passed, return-passed}
 use Rattle.queue.specs.Queue.{Start, Queue, clock, phase}
 use Rattle.queue.specs.Replies.{take-call, return-call, receive-call, told, Answer, refused}
-use Rattle.queue.specs.Calls.{saying, say, acks, accept, grantCame, receiveRows, unless, said, received, onQueue}
+use Rattle.queue.specs.Calls.{saying, say, acks, accept, grantCame, receiveRows, done, said, received, onQueue}
 use Rattle.queue.proofs.Changes.{accepted, receives-new}
 use Rattle.queue.proofs.Clocks.{clock-put}
 use Rattle.queue.proofs.Fitting.{Fitting, fitting-change}
@@ -38,24 +38,24 @@ past-one t n y = rw (is-true t y)
 
 -- done, with the queue q before and q′ after
 same-done : (st : Start) (q q′ : Queue) (p′ : Post) (wrote : Bool) (bytes bytes′ : List ℕ) → p′ ≡ image st q′ → bytes ≡ bytes′
-    → Same st (answered (record { gives = post.answer (image st q .phase) p′ wrote; leaves = bytes })) (record { next = q′; reply = told 0 wrote (grantCame st q q′) bytes′ })
+    → Same st (answered (record { gives = post.answer (image st q .phase) p′ wrote; leaves = bytes })) (done st q q′ wrote bytes′)
 unfolding grantCame image
 same-done st q q′ p′ wrote bytes bytes′ e d = record { next = e; reply = λ i. told 0 wrote (not (eqb (phase st q) 3) && eqb (e i .phase) 3) (d i) }
 
 -- done or refused, by the same number
 same-unless : (st : Start) (q : Queue) (lent : List ℕ) (rows rows′ : List Row) (x : post.Outcome) (u : Answer Queue) → refusal rows ≡ refusal rows′
-    → (refusal rows′ ≡ 0 → Same st (answered x) u) → Same st (answered (post.unless (image st q) lent rows x)) (unless q lent rows′ u)
-unfolding post.unless unless
+    → (refusal rows′ ≡ 0 → Same st (answered x) u) → Same st (answered (unless rows (post.stays (image st q) lent) x)) (unless rows′ (refused q lent) u)
+unfolding unless
 same-unless st q lent rows rows′ x u e h =
     let n = refusal rows′ in
-    subst (λ (z : ℕ). Same st (left z) (cond (eqb n 0) u (refused q n lent))) (sym e) (go (eqb n 0) (λ y. h (eqb→eq n 0 y)))
+    subst (λ (z : ℕ). Same st (left z) (cond (eqb n 0) u (refused q lent n))) (sym e) (go (eqb n 0) (λ y. h (eqb→eq n 0 y)))
   where
     left : ℕ → Answer Post
-    left z = answered (cond (eqb z 0) x (record { gives = post.refused (image st q) z; leaves = lent }))
+    left z = answered (cond (eqb z 0) x (post.stays (image st q) lent z))
 
     go : (b : Bool) → (T b → Same st (answered x) u)
         → let n = refusal rows′ in
-        Same st (answered (cond b x (record { gives = post.refused (image st q) n; leaves = lent }))) (cond b u (refused q n lent))
+        Same st (answered (cond b x (post.stays (image st q) lent n))) (cond b u (refused q lent n))
     go true f = f tt
     go false f = record { next = refl; reply = refl }
 
@@ -100,13 +100,13 @@ module _ (st : Start) (q : Queue) (k : Fitting st q) (s : T (sound (image st q))
 
   same-heard : (m : Message) (lent : List ℕ) (q′ : Queue) → settle (cond (counted m) (post.came p m) (post.noted p m)) ≡ image st q′
       → Same st (answered (post.heardFrom p m lent))
-      (record { next = q′; reply = told 0 (counted m) (grantCame st q q′) (cond (counted m) (over (st .feeder) (saying st 3 (put stamp m q)) lent) lent) })
+      (done st q q′ (counted m) (cond (counted m) (over (st .feeder) (saying st 3 (put stamp m q)) lent) lent))
   unfolding post.heardFrom
   same-heard m lent q′ = go (counted m)
     where
       go : (b : Bool) → settle (cond b (post.came p m) (post.noted p m)) ≡ image st q′
           → Same st (answered (cond b (post.acknowledged p m lent) (record { gives = post.answer (p .phase) (settle (post.noted p m)) false; leaves = lent })))
-          (record { next = q′; reply = told 0 b (grantCame st q q′) (cond b (over (st .feeder) (saying st 3 (put stamp m q)) lent) lent) })
+          (done st q q′ b (cond b (over (st .feeder) (saying st 3 (put stamp m q)) lent) lent))
       go true e = same-done st q q′ _ true _ _ e (ack-bytes m lent)
       go false e = same-done st q q′ _ false _ _ e refl
 

@@ -2,15 +2,17 @@
 use mathlib.Core.Path.{_≡_, refl, sym, ap, ap₂, _∙_, subst}
 use mathlib.Core.Bool.{Bool, true, false, not, cond}
 use mathlib.Core.List.{List}
-use Prim.Native.Nat.{ℕ, _+_, _≤_, _<_}
+use Prim.Native.Nat.{ℕ, _+_, _^_, _≤_, _<_}
 use native.Mathlib.Omega.{arith}
 use lib.Dec.{T, leb, eqb, T-not, not-T, leb→le, le→leb, eqb→eq}
 use lib.ListN.{length}
 use lib.Ieee.Bits.{is-true, is-false}
-use Rattle.laws.specs.Lists.{In, keep, many}
+use Rattle.laws.specs.Lists.{In, keep, many, leading}
 use Rattle.laws.proofs.Tests.{test, same-test}
 use Rattle.laws.proofs.ListLaws.{in-keep, keep-in, keep-cong}
 use Rattle.laws.proofs.RisingLaws.{rising-keep}
+use Rattle.laws.proofs.LeastLaws.{least-cong}
+use Rattle.laws.proofs.LeadingLaws.{under, leftOf, leading-keep, left-keep}
 use Rattle.frame.specs.declared.Message.{Message}
 use Rattle.frame.specs.Message.{isTake, isReturn, lastCounter, stampOf, stamp}
 use Rattle.queue.specs.Queue.{Start, Queue, clock, last, lastStamp, heard, settled, waiting, number, room, latest, phase, order}
@@ -21,13 +23,12 @@ use Rattle.queue.proofs.Phases.{phase-idle, order-idle, phase-asked, order-aske
 use Rattle.queue.proofs.Settling.{Between, waits-on, count-after, number-after}
 use Rattle.post.specs.declared.Post.{Post}
 use Rattle.post.specs.Record.{waitingOf, floor, inSlots, made, remade}
-use Rattle.post.specs.Settle.{upTo, ownNumber, orderAfter, phaseAfter, settle}
-use Rattle.post.proofs.Settled.{under, leftOf, upTo-keep, left-keep}
+use Rattle.post.specs.Settle.{ownNumber, orderAfter, phaseAfter, settle}
 use Rattle.post.proofs.OwnMessages.{ownNumber-none}
 use Rattle.post.proofs.OwnTakes.{Only, number-of-own}
 use Rattle.feeder.specs.Image.{listFrom, image}
 use Rattle.feeder.proofs.Listed.{listFrom-at}
-use Rattle.feeder.proofs.ImageParts.{floorOf, least-cong, in-slots, heard-floor}
+use Rattle.feeder.proofs.ImageParts.{floorOf, in-slots, heard-floor}
 
 -- what q counted, with the clock and the last counters of a later queue and with v in the slots
 abbrev pub unsettled : Start → Queue → Queue → List Message → ℕ → ℕ → Post
@@ -114,32 +115,32 @@ module _ (st : Start) (q q′ : Queue) (v : List Message) (b : Between st q q′
     before = unsettled st q q′ v ph o
 
     abbrev counts : List Message
-    counts = upTo (floor before) (waitingOf before)
+    counts = leading stamp (floor before) (waitingOf before)
 
     floor-is : floor before ≡ floorOf st q′
     unfolding floor remade image
     floor-is =
-        least-cong (st .posts) (st .own) _ (λ r. lastStamp r q′) (λ r l.
+        least-cong (st .posts) (st .own) (2 ^ 40) _ (λ r. lastStamp r q′) (λ r l.
         ap (λ (c : ℕ). stampOf c r) (listFrom-at 16 (λ x. last x q′) r (let z = g .fit .few in omega arith)))
 
     waits-are : waitingOf before ≡ v
     unfolding remade
     waits-are = in-slots v
 
-    under-heard : (m : Message) → In m v → under (floorOf st q′) m ≡ heard st q′ m
+    under-heard : (m : Message) → In m v → under stamp (floorOf st q′) m ≡ heard st q′ m
     under-heard m i =
         let k = heard-floor st q′ g wide m (b .only m i .0) in
         let f = floorOf st q′ in
         same-test (leb (stamp m) f) (heard st q′ m) (λ y. k .1 (leb→le (stamp m) f y)) (λ y. le→leb (stamp m) f (k .0 y))
 
     gone-is : counts ≡ gone
-    gone-is = ap₂ upTo floor-is waits-are ∙ upTo-keep (floorOf st q′) v (b .rising) ∙ keep-cong (under (floorOf st q′)) (heard st q′) v under-heard
+    gone-is = ap₂ (leading stamp) floor-is waits-are ∙ leading-keep stamp (floorOf st q′) v (b .rising) ∙ keep-cong (under stamp (floorOf st q′)) (heard st q′) v under-heard
 
-    left-is : leftOf (floor before) (waitingOf before) ≡ waiting st q′
+    left-is : leftOf stamp (floor before) (waitingOf before) ≡ waiting st q′
     left-is =
-        ap₂ leftOf floor-is waits-are
-        ∙ left-keep (floorOf st q′) v (b .rising)
-        ∙ keep-cong (λ m. not (under (floorOf st q′) m)) (λ m. not (heard st q′ m)) v (λ m i. ap not (under-heard m i))
+        ap₂ (leftOf stamp) floor-is waits-are
+        ∙ left-keep stamp (floorOf st q′) v (b .rising)
+        ∙ keep-cong (λ m. not (under stamp (floorOf st q′) m)) (λ m. not (heard st q′ m)) v (λ m i. ap not (under-heard m i))
         ∙ sym (waits-on st q q′ v b)
 
     count-is : (f : Message → Bool) → many f (settled st q) + many f counts ≡ many f (settled st q′)

@@ -3,33 +3,28 @@
 use mathlib.Core.Path.{_≡_, refl, sym, ap, _∙_}
 use mathlib.Core.Logic.{_↔_}
 use mathlib.Core.List.{List}
-use Prim.Native.Nat.{ℕ, zero, suc, _-_, _≤_, _<_}
+use Prim.Native.Nat.{ℕ, _-_, _^_, _≤_}
 use native.Mathlib.Omega.{arith}
 use lib.Dec.{T, ltb, ltb→lt, nltb→le}
 use lib.ListN.{length, take, replicate, List·getD-eq-default}
 use lib.Seq.{take-at}
+use Rattle.laws.specs.Below.{leastTo}
 use Rattle.laws.specs.Lists.{In}
 use Rattle.laws.proofs.Tests.{test}
+use Rattle.laws.proofs.LeastLaws.{least-le, le-least, least-cong}
 use Rattle.frame.specs.declared.Message.{Message}
 use Rattle.frame.specs.Message.{blank, lastCounter, stampOf, stamp}
 use Rattle.queue.specs.Queue.{Start, Queue, clock, last, lastStamp, heard, waiting}
 use Rattle.queue.proofs.Good.{Sorted, le-clock}
 use Rattle.queue.proofs.Heard.{heard-at, at-heard}
 use Rattle.queue.proofs.Clocks.{last-none}
-use Rattle.post.specs.Record.{lastOf, waitingOf, leastTo, floor, inSlots}
-use Rattle.post.proofs.Floors.{least-le, le-least}
+use Rattle.post.specs.Record.{lastOf, waitingOf, floor, inSlots}
 use Rattle.feeder.specs.Image.{listFrom, image}
 use Rattle.feeder.proofs.Listed.{length-listFrom, listFrom-at}
 
 -- the least last stamp of the other posts
 abbrev pub floorOf : Start → Queue → ℕ
-floorOf st q = leastTo (st .posts) (st .own) (λ r. lastStamp r q)
-
--- it depends on the last stamps alone
-pub least-cong : (n own : ℕ) (f g : ℕ → ℕ) → ((r : ℕ) → r < n → f r ≡ g r) → leastTo n own f ≡ leastTo n own g
-unfolding leastTo
-least-cong zero own f g h = refl
-least-cong (suc n) own f g h = rw (h n (omega arith), least-cong n own f g (λ r l. h r (omega arith)))
+floorOf st q = leastTo (st .posts) (st .own) (2 ^ 40) (λ r. lastStamp r q)
 
 -- messages in slots come out again
 pub in-slots : (ms : List Message) → take (length ms) (inSlots ms) ≡ ms
@@ -55,7 +50,7 @@ module _ (st : Start) (q : Queue) where
 
     pub image-floor : floor (image st q) ≡ floorOf st q
     unfolding floor image
-    image-floor = least-cong (st .posts) (st .own) _ (λ r. lastStamp r q) (λ r l. ap (λ (x : ℕ). stampOf x r) (image-last r))
+    image-floor = least-cong (st .posts) (st .own) (2 ^ 40) _ (λ r. lastStamp r q) (λ r l. ap (λ (x : ℕ). stampOf x r) (image-last r))
 
     -- settled is at or below the floor
     pub heard-floor : clock q ≤ lastCounter → (m : Message) → In m q → T (heard st q m) ↔ (stamp m ≤ floorOf st q)
@@ -63,6 +58,6 @@ module _ (st : Start) (q : Queue) where
         let a = le-clock q m i in
         let b = g .proper m i .sender in
         let c = g .fit .few in (
-          λ h. le-least (st .own) (λ r. lastStamp r q) (st .posts) (stamp m) (omega arith) (heard-at st q m h),
-          λ h. at-heard st q m (λ r l d. let e = least-le (st .own) (λ x. lastStamp x q) (st .posts) r l d in omega arith),
+          λ h. le-least (st .own) (2 ^ 40) (λ r. lastStamp r q) (st .posts) (stamp m) (omega arith) (heard-at st q m h),
+          λ h. at-heard st q m (λ r l d. let e = least-le (st .own) (2 ^ 40) (λ x. lastStamp x q) (st .posts) r l d in omega arith),
         )

@@ -3,6 +3,7 @@ use mathlib.Core.List.{[]}
 use mathlib.Core.Path.{_≡_, refl, sym, ap, subst}
 use mathlib.Core.Bool.{Bool, cond}
 use lib.Ieee.Bits.{is-true, is-false}
+use Rattle.laws.specs.Ladder.{unless}
 use Rattle.laws.specs.Lists.{keep, final, top}
 use Rattle.queue.specs.Queue.{Start, clock, last, settled, waiting, latest, phase, order}
 use Rattle.queue.specs.Replies.{Call, take-call, return-call, receive-call, value-call, missing-call}
@@ -35,7 +36,7 @@ started-fits st a =
     fitting-empty st (record { few = r .posts-high; mine = r .own-low })
 
 zero-refuses : (c : Call) → (onRecord (fresh 0 0 0 0) c .reply ≡ refusedOne c) × (onRecord (fresh 0 0 0 0) c .next ≡ fresh 0 0 0 0)
-unfolding onRecord post.takeRows post.returnRows post.receiveRows post.unless post.valued
+unfolding onRecord post.takeRows post.returnRows post.receiveRows unless post.valued
     post.missed sound numberRules inRange fresh
 zero-refuses (take-call lent) = (refl, refl)
 zero-refuses (return-call lent) = (refl, refl)

@@ -9,9 +9,10 @@ use lib.ListN.{length, take, drop, length-append}
 use lib.Seq.{take-at}
 use lib.Ieee.Bits.{is-true, is-false}
 use Rattle.laws.specs.Below.{one?}
-use Rattle.laws.specs.Ladder.{Row, refusal}
+use Rattle.laws.specs.Ladder.{Row, refusal, unless}
 use Rattle.laws.specs.Lists.{keep, put}
-use Rattle.laws.proofs.Tests.{test, cond-both, neqb→ne}
+use Rattle.laws.proofs.Tests.{test, neqb→ne}
+use Rattle.laws.proofs.RefusalLaws.{unless-both}
 use Rattle.laws.proofs.RisingLaws.{keep-put-no}
 use Rattle.frame.specs.declared.Message.{Message}
 use Rattle.frame.specs.Message.{stamp, by}
@@ -19,7 +20,7 @@ use Rattle.frame.specs.Frame.{frame, over, fieldsOf}
 use Rattle.frame.specs.Table.{takeTests, returnTests}
 use Rattle.queue.specs.Queue.{Start, Queue, clock, phase}
 use Rattle.queue.specs.Replies.{Call, take-call, return-call, receive-call, value-call, missing-call, Answer, told, refused}
-use Rattle.queue.specs.Calls.{saying, say, acks, accept, receiveRows, unless, said, received, onQueue}
+use Rattle.queue.specs.Calls.{saying, say, acks, accept, receiveRows, said, received, onQueue}
 use Rattle.queue.proofs.Good.{Sorted, New, sorted-new}
 use Rattle.queue.proofs.Changes.{receives-new}
 use Rattle.queue.proofs.Parts.{keep-say-last, others-said, others-accepted, sender-accepted}
@@ -45,8 +46,8 @@ one-frame : (f : ℕ) (m : Message) (rest : List ℕ) → take 12 (frame f m ++ 
 one-frame f m rest = take-at (frame f m) rest 12 (unfold frame in refl)
 
 module _ (st : Start) (q : Queue) where
-  refusal-tells : (c : Call) (n : ℕ) (lent : List ℕ) → T (not (eqb n 0)) → Tells st q c (refused q n lent)
-  refusal-tells c n lent z = record {
+  refusal-tells : (c : Call) (lent : List ℕ) (n : ℕ) → T (not (eqb n 0)) → Tells st q c (refused q lent n)
+  refusal-tells c lent n z = record {
     said = [];
     sends = sym (append-nil (keep (by (st .own)) q));
     writes = refl;
@@ -71,10 +72,9 @@ module _ (st : Start) (q : Queue) where
       others = λ r d. let k = ap length (others-said st q kind r d) in rw (b r) (omega arith);
     }
 
-    unless-tells : (c : Call) (rows : List Row) (lent : List ℕ) (a : Answer Queue) → (T (eqb (refusal rows) 0) → Tells st q c a)
-        → Tells st q c (unless q lent rows a)
-    unfolding unless
-    unless-tells c rows lent a t = cond-both {A = Answer Queue} (Tells st q c) (eqb (refusal rows) 0) _ _ t (refusal-tells c (refusal rows) lent)
+    unless-tells : (c : Call) (rows : List Row) (lent : List ℕ) (a : Answer Queue) → (refusal rows ≡ 0 → Tells st q c a)
+        → Tells st q c (unless rows (refused q lent) a)
+    unless-tells c rows lent a t = unless-both {A = Answer Queue} (Tells st q c) rows (refused q lent) a t (refusal-tells c lent)
 
     module _ (s lent : List ℕ) (granted : Bool) (w : New st q (fieldsOf s .message)) where
       abbrev m : Message
@@ -123,8 +123,7 @@ module _ (st : Start) (q : Queue) where
     tells (take-call lent) = unless-tells (take-call lent) (takeTests (phase st q) (clock q) (length lent)) lent (said st q 1 lent) (λ y. said-tells (take-call lent) 1 _ lent (λ r. refl))
     tells (return-call lent) = unless-tells (return-call lent) (returnTests (phase st q) (clock q) (length lent)) lent (said st q 2 lent) (λ y. said-tells (return-call lent) 2 _ lent (λ r. refl))
     tells (receive-call s lent) =
-        let rows = receiveRows st q s (length lent) in
-        unless-tells (receive-call s lent) rows lent (received st q (fieldsOf s .message) lent)
-        (λ y. accepted-tells s lent _ (receives-new st q s (length lent) (eqb→eq (refusal rows) 0 y)))
+        unless-tells (receive-call s lent) (receiveRows st q s (length lent)) lent (received st q (fieldsOf s .message) lent)
+        (λ z. accepted-tells s lent _ (receives-new st q s (length lent) z))
     tells value-call = unchanged-tells value-call (onQueue st q value-call) refl refl (λ r. refl)
     tells missing-call = unchanged-tells missing-call (onQueue st q missing-call) refl refl (λ r. refl)

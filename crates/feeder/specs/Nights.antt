@@ -2,6 +2,7 @@
 -- `proofs/NightsHold` reckons all of them through, over the short record and over the full queue.
 use Rattle.laws.specs.Words.{true, false, List, [], _∷_, _++_, map, _≡_, ℕ, _^_, pos, negsuc}
 use Rattle.laws.specs.Lists.{many}
+use Rattle.laws.specs.Below.{leastTo}
 use Rattle.frame.specs.declared.Message.{Message}
 use Rattle.frame.specs.Message.{msg, isTake, isReturn, stampOf}
 use Rattle.frame.specs.Frame.{frame}
@@ -9,7 +10,7 @@ use Rattle.queue.specs.Queue.{Start, clock, last, lastStamp, settled, waiting, 
 use Rattle.queue.specs.Replies.{Call, take-call, return-call, receive-call, value-call, missing-call, Reply, told, worth, lacking, after, replies}
 use Rattle.queue.specs.Calls.{onQueue}
 use Rattle.queue.specs.Feeder.{buffer}
-use Rattle.post.specs.Record.{lastOf, waitingOf, leastTo, floor}
+use Rattle.post.specs.Record.{lastOf, waitingOf, floor}
 use Rattle.feeder.specs.Image.{listFrom}
 use Rattle.feeder.specs.OnRecord.{onRecord, startedPost}
 
@@ -212,7 +213,7 @@ onTheQueue n =
       closing = record {
         clock = clock q;
         last = listFrom 0 (st .posts) (λ r. last r q);
-        floor = leastTo (st .posts) (st .own) (λ r. lastStamp r q);
+        floor = leastTo (st .posts) (st .own) (2 ^ 40) (λ r. lastStamp r q);
         waiting = waiting st q;
         takes = many isTake (settled st q);
         returns = many isReturn (settled st q);

@@ -16,3 +16,5 @@ pub mod Counting
 pub mod SumBounds
 pub mod StoreLaws
 pub mod SearchLaws
+pub mod LeastLaws
+pub mod LeadingLaws

@@ -40,6 +40,16 @@ module _ {A : Type 0} (key : A → ℕ) where
   Rising [] = Unit
   Rising (x ∷ xs) = ((y : A) → In y xs → key x < key y) × Rising xs
 
+  -- the same as a test, and the first key is above t
+  unfoldable pub rises : ℕ → List A → Bool
+  rises t [] = true
+  rises t (x ∷ xs) = ltb t (key x) && rises (key x) xs
+
+  -- those before the first whose key is above t
+  unfoldable pub leading : ℕ → List A → List A
+  leading t [] = []
+  leading t (x ∷ xs) = cond (ltb t (key x)) [] (x ∷ leading t xs)
+
   -- a list with one more, before the first whose key is above it
   unfoldable pub put : A → List A → List A
   put a [] = a ∷ []

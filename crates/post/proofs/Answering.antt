@@ -9,7 +9,7 @@ use lib.Dec.{T, eqb}
 use lib.Ieee.Bits.{is-true}
 use lib.ListN.{length, replicate}
 use lib.Seq.{drop-at, set-set}
-use Rattle.laws.specs.Ladder.{Row, refusal}
+use Rattle.laws.specs.Ladder.{Row, refusal, unless}
 use Rattle.laws.specs.Lists.{put}
 use Rattle.laws.proofs.Ladders.{on, off, not-off, unrefused}
 use Rattle.laws.proofs.CountLaws.{length-put}
@@ -20,7 +20,7 @@ use Rattle.post.specs.declared.Post.{Post}
 use Rattle.post.specs.declared.Answer.{Answer}
 use Rattle.post.specs.Record.{waitingOf, remade}
 use Rattle.post.specs.Settle.{settle}
-use Rattle.post.specs.Calls.{spoken, joined, noted, Outcome, Gives, answer, refused, unless, writing, acknowledged, heardFrom}
+use Rattle.post.specs.Calls.{spoken, joined, noted, Outcome, Gives, answer, refused, stays, writing, acknowledged, heardFrom}
 use Rattle.post.specs.Inside.{Countable}
 use Rattle.post.proofs.SoundFacts.{sound-has}
 use Rattle.post.proofs.Shape.{Kept, length-waiting}
@@ -79,11 +79,11 @@ among : {o o′ : Outcome} → o ≡ o′ → {r : Answer} {new : List ℕ} → 
 among e {r} {new} = subst (λ (x : Outcome). Gives x r new) e
 
 module _ (p : Post) (rows : List Row) {n : ℕ} (e : n ≡ refusal rows) (lent : List ℕ) (o : Outcome) where
-  pub not-done : (n ≡ 0 → ⊥) → {r : Answer} → r ≡ refused p n → Gives (unless p lent rows o) r lent
+  pub not-done : (n ≡ 0 → ⊥) → {r : Answer} → r ≡ refused p n → Gives (unless rows (stays p lent) o) r lent
   unfolding unless
   not-done z h = let f = ne-eqb (refusal rows) 0 (λ q. z (e ∙ q)) in among (off _ _ _ f refl) (record { gives = h ∙ ap (refused p) e; leaves = refl })
 
-  pub is-done : n ≡ 0 → {r : Answer} {new : List ℕ} → Gives o r new → Gives (unless p lent rows o) r new
+  pub is-done : n ≡ 0 → {r : Answer} {new : List ℕ} → Gives o r new → Gives (unless rows (stays p lent) o) r new
   unfolding unless
   is-done z = among (on _ _ _ (eq-eqb (refusal rows) 0 (sym e ∙ z)) refl)
 

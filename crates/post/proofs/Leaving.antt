@@ -2,20 +2,21 @@
 use mathlib.Core.Path.{_≡_, refl, ap, _∙_, sym, subst}
 use mathlib.Core.Bool.{Bool, true, false, cond, _&&_}
 use mathlib.Core.List.{List, [], _∷_}
-use Prim.Native.Nat.{ℕ, suc, _+_, _≤_, _<_, _^_}
+use Prim.Native.Nat.{ℕ, _+_, _≤_, _<_, _^_}
 use native.Mathlib.Omega.{arith}
 use native.Mathlib.Nat.{zero-add, add-zero}
 use borrow.Author.Tests.{lt-ltb, le-ltb, eqb-true, ne-eqb}
-use lib.Dec.{ltb, eqb}
+use lib.Dec.{eqb}
 use lib.ListN.{length, getD}
 use lib.Seq.{slice}
-use Rattle.laws.specs.Lists.{keep, many}
+use Rattle.laws.specs.Lists.{keep, many, leading}
 use Rattle.laws.specs.Below.{one?}
 use Rattle.laws.proofs.ListLaws.{many-cons}
 use Rattle.laws.proofs.ScanLaws.{next, over, many-length}
+use Rattle.laws.proofs.LeadingLaws.{leading-length}
 use Rattle.frame.specs.declared.Message.{Message}
 use Rattle.frame.specs.Message.{blank, isTake, isReturn, stamp, by}
-use Rattle.post.specs.Settle.{upTo, ownNumber}
+use Rattle.post.specs.Settle.{ownNumber}
 use Rattle.post.specs.Inside.{Left}
 
 -- the number found, or what is still to be found
@@ -29,28 +30,19 @@ found-zero o = go (eqb o 0) refl
     go true e = eqb-true o 0 e
     go false e = refl
 
-pub upTo-length : (f : ℕ) (ms : List Message) → length (upTo f ms) ≤ length ms
-unfolding upTo
-upTo-length f [] = omega arith
-upTo-length f (m ∷ ms) = go (ltb f (stamp m)) (upTo-length f ms)
-  where
-    go : (b : Bool) → length (upTo f ms) ≤ length ms → length (cond b [] (m ∷ upTo f ms)) ≤ suc (length ms)
-    go true h = omega arith
-    go false h = omega arith
-
 module _ (own before f : ℕ) (ms : List Message) where
   -- what has been counted, with the rest still to come
   pub record Leaves (rest : List Message) (i tk rt o : ℕ) : Type 0 where
-    pub count : i + length (upTo f rest) ≡ length (upTo f ms)
-    pub takes : tk + many isTake (upTo f rest) ≡ before + many isTake (upTo f ms)
-    pub returns : rt + many isReturn (upTo f rest) ≡ many isReturn (upTo f ms)
-    pub order : found o (ownNumber own tk (upTo f rest)) ≡ ownNumber own before (upTo f ms)
+    pub count : i + length (leading stamp f rest) ≡ length (leading stamp f ms)
+    pub takes : tk + many isTake (leading stamp f rest) ≡ before + many isTake (leading stamp f ms)
+    pub returns : rt + many isReturn (leading stamp f rest) ≡ many isReturn (leading stamp f ms)
+    pub order : found o (ownNumber own tk (leading stamp f rest)) ≡ ownNumber own before (leading stamp f ms)
 
   pub begun : Leaves ms 0 before 0 0
   begun = record { count = zero-add _; takes = refl; returns = zero-add _; order = refl }
 
-  last-left : {i tk rt o : ℕ} (rest : List Message) → upTo f rest ≡ [] → Leaves rest i tk rt o
-      → Left own before (upTo f ms) (record { count = i; takes = tk; returns = rt; order = o })
+  last-left : {i tk rt o : ℕ} (rest : List Message) → leading stamp f rest ≡ [] → Leaves rest i tk rt o
+      → Left own before (leading stamp f ms) (record { count = i; takes = tk; returns = rt; order = o })
   unfolding keep ownNumber
   last-left {i} {tk} {rt} {o} rest e g = record {
     count = let a = g .count in let b = ap length e in omega arith;
@@ -59,21 +51,21 @@ module _ (own before f : ℕ) (ms : List Message) where
     order = found-zero o ∙ ap (λ (l : List Message). found o (ownNumber own tk l)) (sym e) ∙ g .order;
   }
 
-  pub ended : {i tk rt o : ℕ} → Leaves [] i tk rt o → Left own before (upTo f ms) (record { count = i; takes = tk; returns = rt; order = o })
-  unfolding upTo
+  pub ended : {i tk rt o : ℕ} → Leaves [] i tk rt o → Left own before (leading stamp f ms) (record { count = i; takes = tk; returns = rt; order = o })
+  unfolding leading
   ended g = last-left [] refl g
 
   module _ {m : Message} {rest : List Message} {i tk rt o : ℕ} (g : Leaves (m ∷ rest) i tk rt o) where
-    pub stopped : f < stamp m → Left own before (upTo f ms) (record { count = i; takes = tk; returns = rt; order = o })
-    unfolding upTo
+    pub stopped : f < stamp m → Left own before (leading stamp f ms) (record { count = i; takes = tk; returns = rt; order = o })
+    unfolding leading
     stopped h = last-left (m ∷ rest) (rw (lt-ltb f (stamp m) h)) g
 
     pub turned : stamp m ≤ f → {tk′ rt′ o′ : ℕ} → tk′ ≡ tk + one? (isTake m) → rt′ ≡ rt + one? (isReturn m)
         → o′ ≡ cond (by own m && (isTake m && eqb o 0)) (tk + 1) o → Leaves rest (i + 1) tk′ rt′ o′
-    unfolding upTo ownNumber
+    unfolding leading ownNumber
     turned h {tk′} {rt′} {o′} pt pr po =
-        let R = upTo f rest in
-        let e : upTo f (m ∷ rest) ≡ m ∷ R = rw (le-ltb f (stamp m) h) in
+        let R = leading stamp f rest in
+        let e : leading stamp f (m ∷ rest) ≡ m ∷ R = rw (le-ltb f (stamp m) h) in
         record {
           count = let a = g .count in let b = ap length e in omega arith;
           takes = let a = g .takes in let b = ap (many isTake) e in let d = many-cons isTake m R in omega arith;
@@ -109,7 +101,7 @@ module _ (own before f : ℕ) (ms : List Message) where
   small h l g =
       let a = g .takes in
       let b = g .returns in
-      let c = many-length isTake (upTo f ms) in
-      let d = many-length isReturn (upTo f ms) in
-      let e = upTo-length f ms in
+      let c = many-length isTake (leading stamp f ms) in
+      let d = many-length isReturn (leading stamp f ms) in
+      let e = leading-length stamp f ms in
       (omega arith, omega arith)

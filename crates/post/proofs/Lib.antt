@@ -8,7 +8,6 @@ pub mod Most
 pub mod Above
 pub mod Values
 pub mod OwnMessages
-pub mod Settled
 pub mod StandsOn
 pub mod SoundPasses
 pub mod Settles

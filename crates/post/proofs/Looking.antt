@@ -9,7 +9,7 @@ use borrow.Author.Tests.{lt-ltb, le-ltb}
 use lib.Dec.{leb, eqb, eqb→eq}
 use lib.ListN.{length, getD, drop, set, replicate, length-set, getD-replicate, drop-of-length-le}
 use lib.Seq.{slice, getD-set-same, getD-set-other}
-use Rattle.laws.specs.Lists.{keep, all, many}
+use Rattle.laws.specs.Lists.{keep, all, many, rises}
 use Rattle.laws.specs.Below.{one?}
 use Rattle.laws.proofs.Tests.{test, neqb→ne}
 use Rattle.laws.proofs.BelowLaws.{one-yes, one-eqb}
@@ -19,7 +19,7 @@ use Rattle.frame.specs.declared.Message.{Message}
 use Rattle.frame.specs.Message.{blank, counted, isTake, isReturn, stamp, by}
 use Rattle.post.specs.declared.slots.Seen.{Seen}
 use Rattle.post.specs.Inside.{Looked}
-use Rattle.post.specs.Sound.{fair, rises, isBlank, endKind}
+use Rattle.post.specs.Sound.{fair, isBlank, endKind}
 
 -- what a message has that `fits_last` finds
 abbrev pub fitsLast : List ℕ → Message → Bool
@@ -28,7 +28,7 @@ fitsLast last m = counted m && (leb 1 (m .counter) && leb (m .counter) (getD las
 module _ (posts own : ℕ) (last : List ℕ) (t : ℕ) (ms : List Message) where
   -- what has been found, with the rest still to be looked at
   pub record Going (rest : List Message) (top : ℕ) (counts : List ℕ) (tk rt e : ℕ) : Type 0 where
-    pub orderly : (all (fair posts last) rest && rises top rest) ≡ (all (fair posts last) ms && rises t ms)
+    pub orderly : (all (fair posts last) rest && rises stamp top rest) ≡ (all (fair posts last) ms && rises stamp t ms)
     pub each : (q : ℕ) → q < 16 → getD counts q 0 + many (by q) rest ≡ many (by q) ms
     pub takes : tk + many (λ m. by own m && isTake m) rest ≡ many (λ m. by own m && isTake m) ms
     pub returns : rt + many (λ m. by own m && isReturn m) rest ≡ many (λ m. by own m && isReturn m) ms
@@ -46,15 +46,15 @@ module _ (posts own : ℕ) (last : List ℕ) (t : ℕ) (ms : List Message) where
   }
 
   module _ {m : Message} {rest : List Message} {top : ℕ} {counts : List ℕ} {tk rt e : ℕ} (g : Going (m ∷ rest) top counts tk rt e) where
-    pub foreign : posts ≤ m .sender → false ≡ (all (fair posts last) ms && rises t ms)
+    pub foreign : posts ≤ m .sender → false ≡ (all (fair posts last) ms && rises stamp t ms)
     unfolding all fair
     foreign h = sym (rw (le-ltb (m .sender) posts h)) ∙ g .orderly
 
-    pub unfit : m .sender < posts → fitsLast last m ≡ false → false ≡ (all (fair posts last) ms && rises t ms)
+    pub unfit : m .sender < posts → fitsLast last m ≡ false → false ≡ (all (fair posts last) ms && rises stamp t ms)
     unfolding all fair
     unfit h f = sym (rw (lt-ltb (m .sender) posts h, f)) ∙ g .orderly
 
-    pub low : stamp m ≤ top → false ≡ (all (fair posts last) ms && rises t ms)
+    pub low : stamp m ≤ top → false ≡ (all (fair posts last) ms && rises stamp t ms)
     unfolding rises
     low h = sym (rw (le-ltb top (stamp m) h) (and-false (all (fair posts last) (m ∷ rest)))) ∙ g .orderly
 
@@ -75,7 +75,7 @@ module _ (posts own : ℕ) (last : List ℕ) (t : ℕ) (ms : List Message) where
     turned h h16 f {top′} {tk′} {rt′} {e′} p l pt pr pe =
         let s = m .sender in
         record {
-          orderly = ap (λ (x : ℕ). all (fair posts last) rest && rises x rest) p ∙ sym (rw (lt-ltb s posts h, f, lt-ltb top (stamp m) (omega arith))) ∙ g .orderly;
+          orderly = ap (λ (x : ℕ). all (fair posts last) rest && rises stamp x rest) p ∙ sym (rw (lt-ltb s posts h, f, lt-ltb top (stamp m) (omega arith))) ∙ g .orderly;
           each = λ q lq. test (eqb s q)
               (λ y. let d = eqb→eq s q y in
               let a = g .each q lq in
@@ -108,16 +108,16 @@ module _ (posts own : ℕ) (last : List ℕ) (t : ℕ) (ms : List Message) where
     }
 
     -- one fault is enough
-    unlooked : (seen : Seen) → seen .orderly ≡ false → false ≡ ((all (fair posts last) ms && rises t ms) && all isBlank unused) → Looked posts own last t ms unused seen
+    unlooked : (seen : Seen) → seen .orderly ≡ false → false ≡ ((all (fair posts last) ms && rises stamp t ms) && all isBlank unused) → Looked posts own last t ms unused seen
     unlooked seen n e =
         let no : seen .orderly ≡ true → ⊥ = λ y. false≢true (sym n ∙ y) in
         record { orderly = n ∙ e; counts = λ y. absurd (no y); takes = λ y. absurd (no y); returns = λ y. absurd (no y); end = λ y. absurd (no y) }
 
-    pub wrong : (seen : Seen) → seen .orderly ≡ false → false ≡ (all (fair posts last) ms && rises t ms) → Looked posts own last t ms unused seen
+    pub wrong : (seen : Seen) → seen .orderly ≡ false → false ≡ (all (fair posts last) ms && rises stamp t ms) → Looked posts own last t ms unused seen
     wrong seen n e = unlooked seen n (ap (λ (x : Bool). x && all isBlank unused) e)
 
     pub used : (seen : Seen) → seen .orderly ≡ false → all isBlank unused ≡ false → Looked posts own last t ms unused seen
-    used seen n e = unlooked seen n (sym (rw e (and-false (all (fair posts last) ms && rises t ms))))
+    used seen n e = unlooked seen n (sym (rw e (and-false (all (fair posts last) ms && rises stamp t ms))))
 
   -- the next message of the first n
   pub step : (l : List Message) (i n : ℕ) {top : ℕ} {counts : List ℕ} {tk rt e : ℕ} → i < n → n ≤ length l

@@ -9,7 +9,8 @@ use native.Mathlib.Decide.{ℕ-discrete}
 use borrow.Author.Tests.{eq-eqb, ne-eqb, lt-leb}
 use lib.Dec.{T, eqb, eqb→eq}
 use lib.ListN.{length}
-use Rattle.laws.specs.Ladder.{refusal}
+use Rattle.laws.specs.Below.{leastTo}
+use Rattle.laws.specs.Ladder.{refusal, unless}
 use Rattle.laws.specs.Lists.{many, all}
 use Rattle.laws.proofs.Tests.{cond-both, leb-total}
 use Rattle.laws.proofs.CountLaws.{many-none, many-split, length-parts}
@@ -19,12 +20,12 @@ use Rattle.frame.specs.Message.{stampOf, isTake, isReturn, counted, by}
 use Rattle.frame.specs.Frame.{fieldsOf, formRows}
 use Rattle.frame.specs.Table.{senderTests, turnTests, receiveTests}
 use Rattle.post.specs.declared.Post.{Post}
-use Rattle.post.specs.Record.{lastOf, waitingOf, leastTo, floor}
+use Rattle.post.specs.Record.{lastOf, waitingOf, floor}
 use Rattle.post.specs.Sound.{sound}
-use Rattle.post.specs.Calls.{receiveRows, Outcome, unless, heardFrom, received}
+use Rattle.post.specs.Calls.{receiveRows, Outcome, heardFrom, received}
 use Rattle.post.proofs.SoundFacts.{Sound, sound-has}
 use Rattle.post.proofs.Shape.{Shape, Width, length-waiting, last-width}
-use Rattle.post.proofs.Floors.{least-of, least-le}
+use Rattle.laws.proofs.LeastLaws.{least-of, least-le}
 use Rattle.post.proofs.Standing.{standing, own-most}
 
 module _ (p : Post) (s : Sound p) where
@@ -62,11 +63,11 @@ module _ (p : Post) (s : Sound p) where
       ⊎-elim
       (λ e. absurd (⊎-elim (λ o. high 1 n (λ x. omega arith) e) (λ o. high 0 (omega arith) (λ x. omega arith) e) (leb-total (p .own) 0)))
       (λ q. q)
-      (least-of (p .own) (λ q. stampOf (lastOf p q) q) (p .posts))
+      (least-of (p .own) (2 ^ 40) (λ q. stampOf (lastOf p q) q) (p .posts))
     where
-      high : (q : ℕ) → q < p .posts → (q ≡ p .own → ⊥) → leastTo (p .posts) (p .own) (λ r. stampOf (lastOf p r) r) ≡ 2 ^ 40 → ⊥
+      high : (q : ℕ) → q < p .posts → (q ≡ p .own → ⊥) → leastTo (p .posts) (p .own) (2 ^ 40) (λ r. stampOf (lastOf p r) r) ≡ 2 ^ 40 → ⊥
       high q l d e =
-          let a = least-le (p .own) (λ r. stampOf (lastOf p r) r) (p .posts) q l d in
+          let a = least-le (p .own) (2 ^ 40) (λ r. stampOf (lastOf p r) r) (p .posts) q l d in
           let c = last-width p s w q (omega arith) in
           omega arith
 

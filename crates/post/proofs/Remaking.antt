@@ -1,21 +1,22 @@
 -- The record that the code makes, as the definitions make it anew. Assumes nothing.
 use mathlib.Core.Path.{_≡_, ap, ap₂, _∙_, sym}
 use mathlib.Core.List.{List, _++_, map, append-assoc}
-use Prim.Native.Nat.{ℕ, _+_, _-_, _≤_, _<_}
+use Prim.Native.Nat.{ℕ, _+_, _-_, _≤_, _<_, _^_}
 use native.Mathlib.Omega.{arith}
 use mathlib.Core.Bool.{cond}
 use lib.Dec.{eqb}
 use lib.ListN.{length, getD, drop, replicate, length-drop, length-map, take, take-append-drop, replicate-append-replicate}
 use lib.Seq.{drop-drop, slice, length-slice}
-use Rattle.laws.specs.Lists.{many, put}
+use Rattle.laws.specs.Below.{leastTo}
+use Rattle.laws.specs.Lists.{many, put, leading}
 use Rattle.laws.proofs.CountLaws.{length-put}
 use Rattle.laws.proofs.ShiftLaws.{Moved, all-moved, drop-replicate}
 use Rattle.frame.specs.declared.Message.{Message}
 use Rattle.frame.specs.Message.{blank, isTake, isReturn, stampOf, stamp}
 use Rattle.post.specs.declared.Post.{Post}
 use Rattle.post.specs.declared.slots.Gone.{Gone}
-use Rattle.post.specs.Record.{waitingOf, leastTo, floor, inSlots, made, remade}
-use Rattle.post.specs.Settle.{upTo, ownNumber, orderAfter, phaseAfter, settle}
+use Rattle.post.specs.Record.{waitingOf, floor, inSlots, made, remade}
+use Rattle.post.specs.Settle.{ownNumber, orderAfter, phaseAfter, settle}
 use Rattle.post.specs.Inside.{Left}
 use Rattle.post.proofs.SoundFacts.{Sound, sound-has}
 use Rattle.post.proofs.Shape.{Kept, length-waiting}
@@ -90,8 +91,8 @@ moved-slots l k n h b e z v q =
 
 -- what is settled has left
 pub settles-as : (p : Post) (f : ℕ) (gone : Gone) (slots : List Message) (phase order : ℕ) → length (waitingOf p) ≡ p .waits
-    → f ≡ leastTo (p .posts) (p .own) (λ q. stampOf (getD (p .last) q 0) q)
-    → Left (p .own) (p .takes) (upTo f (waitingOf p)) gone
+    → f ≡ leastTo (p .posts) (p .own) (2 ^ 40) (λ q. stampOf (getD (p .last) q 0) q)
+    → Left (p .own) (p .takes) (leading stamp f (waitingOf p)) gone
     → slots ≡ inSlots (drop (gone .count) (waitingOf p))
     → order ≡ cond (eqb (p .phase) 1) (gone .order) (p .order)
     → phase ≡ phaseAfter (p .phase) order (p .places + (p .returns + gone .returns))
@@ -99,11 +100,11 @@ pub settles-as : (p : Post) (f : ℕ) (gone : Gone) (slots : List Message) (phas
 unfolding settle floor orderAfter
 settles-as p f gone slots phase order len pf g ps po pp =
     let ws = waitingOf p in
-    let out : upTo f ws ≡ upTo (floor p) ws = ap (λ (x : ℕ). upTo x ws) pf in
-    let k : gone .count ≡ length (upTo (floor p) ws) = g .count ∙ ap length out in
-    let left : p .waits - gone .count ≡ length (drop (length (upTo (floor p) ws)) ws) = (let a = length-drop (length (upTo (floor p) ws)) ws in omega arith) in
-    let rt : p .returns + gone .returns ≡ p .returns + many isReturn (upTo (floor p) ws) = ap (λ (x : ℕ). p .returns + x) (g .returns ∙ ap (many isReturn) out) in
-    let o : order ≡ cond (eqb (p .phase) 1) (ownNumber (p .own) (p .takes) (upTo (floor p) ws)) (p .order) =
+    let out : leading stamp f ws ≡ leading stamp (floor p) ws = ap (λ (x : ℕ). leading stamp x ws) pf in
+    let k : gone .count ≡ length (leading stamp (floor p) ws) = g .count ∙ ap length out in
+    let left : p .waits - gone .count ≡ length (drop (length (leading stamp (floor p) ws)) ws) = (let a = length-drop (length (leading stamp (floor p) ws)) ws in omega arith) in
+    let rt : p .returns + gone .returns ≡ p .returns + many isReturn (leading stamp (floor p) ws) = ap (λ (x : ℕ). p .returns + x) (g .returns ∙ ap (many isReturn) out) in
+    let o : order ≡ cond (eqb (p .phase) 1) (ownNumber (p .own) (p .takes) (leading stamp (floor p) ws)) (p .order) =
     po ∙ ap (λ (x : ℕ). cond (eqb (p .phase) 1) x (p .order)) (g .order ∙ ap (ownNumber (p .own) (p .takes)) out) in
     λ i. made (p .posts) (p .own) (p .feeder) (p .places) (p .clock) (p .last) (left i) ((ps ∙ ap (λ (x : ℕ). inSlots (drop x ws)) k) i)
     ((g .takes ∙ ap (λ (l : List Message). p .takes + many isTake l) out) i) (rt i) ((pp ∙ ap₂ (λ (x y : ℕ). phaseAfter (p .phase) x (p .places + y)) o rt) i) (o i)

@@ -2,22 +2,22 @@
 use mathlib.Core.Path.{_≡_, refl, ap, _∙_, sym, subst}
 use mathlib.Core.Bool.{Bool, true, false, not, _&&_, _||_, and-true, and-false, false≢true}
 use mathlib.Core.List.{List}
-use Prim.Native.Nat.{ℕ, _+_, _≤_}
+use Prim.Native.Nat.{ℕ, _+_, _≤_, _^_}
 use native.Mathlib.Omega.{arith}
 use denote.Floats.{passes}
 use lib.Dec.{leb, ltb, eqb, leb→le}
 use lib.ListN.{getD, take, drop}
 use Rattle.laws.specs.Ladder.{every}
-use Rattle.laws.specs.Lists.{all}
-use Rattle.laws.specs.Below.{allTo, sumTo}
+use Rattle.laws.specs.Lists.{all, rises}
+use Rattle.laws.specs.Below.{allTo, sumTo, leastTo}
 use Rattle.laws.proofs.ScanLaws.{allTo-both, allTo-cong}
 use Rattle.frame.specs.declared.Message.{Message}
-use Rattle.frame.specs.Message.{stampOf}
+use Rattle.frame.specs.Message.{stampOf, stamp}
 use Rattle.post.specs.declared.Post.{Post}
 use Rattle.post.specs.declared.slots.Seen.{Seen}
-use Rattle.post.specs.Record.{leastTo, lastOf, waitingOf, floor}
+use Rattle.post.specs.Record.{lastOf, waitingOf, floor}
 use Rattle.post.specs.Inside.{Looked, Checked}
-use Rattle.post.specs.Sound.{absentSilent, clockAbove, fair, rises, noneAlone, few, ownFits, ownFew, sumFits, numberRules, slotRules}
+use Rattle.post.specs.Sound.{absentSilent, clockAbove, fair, noneAlone, few, ownFits, ownFew, sumFits, numberRules, slotRules}
 use Rattle.post.proofs.Ranges.{range-is}
 use Rattle.post.proofs.SoundFacts.{each}
 
@@ -35,7 +35,7 @@ module _ (p : Post) (seen : Seen) (w : Looked (p .posts) (p .own) (p .last) (flo
   -- what the look found wrong fails the row
   pub disorder : seen .orderly ≡ false → false ≡ every (slotRules p)
   unfolding slotRules
-  disorder n = go (all (fair (p .posts) (p .last)) (waitingOf p)) (rises (floor p) (waitingOf p)) (noneAlone p) _ _ (sym (w .orderly) ∙ n)
+  disorder n = go (all (fair (p .posts) (p .last)) (waitingOf p)) (rises stamp (floor p) (waitingOf p)) (noneAlone p) _ _ (sym (w .orderly) ∙ n)
     where
       go : (a b c d e : Bool) → (a && b) && d ≡ false → false ≡ a && (b && (c && (d && e)))
       go true true c d e n = sym (rw n (and-false c))
@@ -45,7 +45,7 @@ module _ (p : Post) (seen : Seen) (w : Looked (p .posts) (p .own) (p .last) (flo
   -- and what it found right leaves the rest of the row
   pub order : seen .orderly ≡ true → {r : Bool} → r ≡ noneAlone p && (allTo (p .posts) (few p) && (ownFew p && true)) → r ≡ every (slotRules p)
   unfolding slotRules
-  order y e = e ∙ sym (go (all (fair (p .posts) (p .last)) (waitingOf p)) (rises (floor p) (waitingOf p)) (noneAlone p) _ _ (sym (w .orderly) ∙ y))
+  order y e = e ∙ sym (go (all (fair (p .posts) (p .last)) (waitingOf p)) (rises stamp (floor p) (waitingOf p)) (noneAlone p) _ _ (sym (w .orderly) ∙ y))
     where
       go : (a b c d e : Bool) → (a && b) && d ≡ true → a && (b && (c && (d && e))) ≡ c && e
       go true true c d e y = ap (λ (x : Bool). c && (x && e)) y
@@ -83,7 +83,7 @@ numbers-has p e =
     record { posts = r .posts-high; waits = leb→le (p .waits) 62 (n .1 .1 .0) }
 
 -- the floor that the code works out is the record's
-pub looked-floor : (p : Post) (seen : Seen) {f : ℕ} {unused : List Message} → f ≡ leastTo (p .posts) (p .own) (λ q. stampOf (getD (p .last) q 0) q)
+pub looked-floor : (p : Post) (seen : Seen) {f : ℕ} {unused : List Message} → f ≡ leastTo (p .posts) (p .own) (2 ^ 40) (λ q. stampOf (getD (p .last) q 0) q)
     → Looked (p .posts) (p .own) (p .last) f (take (p .waits) (p .slots)) unused seen → Looked (p .posts) (p .own) (p .last) (floor p) (waitingOf p) unused seen
 unfolding floor
 looked-floor p seen {unused = unused} e w = subst (λ (x : ℕ). Looked (p .posts) (p .own) (p .last) x (waitingOf p) unused seen) e w

@@ -1,24 +1,27 @@
 -- A record that is sound but for the settling is sound once what is settled has left. Assumes nothing.
 use mathlib.Core.Path.{_≡_, sym, ap, _∙_, subst}
-use mathlib.Core.List.{List, _++_}
+use mathlib.Core.Bool.{Bool, true, false}
+use mathlib.Core.List.{List, [], _∷_, _++_}
 use Prim.Native.Nat.{ℕ, _+_, _-_, _≤_, _<_}
 use native.Mathlib.Omega.{arith}
+use lib.Dec.{T, eqb→eq}
 use lib.ListN.{length, drop, replicate, length-append, length-replicate}
 use lib.Seq.{take-append-seam, drop-append-seam}
-use Rattle.laws.specs.Lists.{In, many, Rising}
-use Rattle.laws.specs.Below.{sumTo}
+use Rattle.laws.specs.Lists.{In, keep, many, Rising, leading}
+use Rattle.laws.specs.Below.{sumTo, one?}
+use Rattle.laws.proofs.ListLaws.{many-cons}
 use Rattle.laws.proofs.CountLaws.{length-none}
+use Rattle.laws.proofs.LeadingLaws.{leftOf, leading-join, many-leading, left-in, left-rises}
 use Rattle.frame.specs.declared.Message.{Message}
-use Rattle.frame.specs.Message.{blank, stamp, by}
+use Rattle.frame.specs.Message.{blank, stamp, isTake, isReturn, by}
 use Rattle.post.specs.declared.Post.{Post}
 use Rattle.post.specs.Record.{lastOf, waitingOf, floor}
 use Rattle.post.specs.Sound.{ownFew}
-use Rattle.post.specs.Settle.{upTo, orderAfter, settle}
+use Rattle.post.specs.Settle.{orderAfter, settle}
 use Rattle.post.proofs.SoundFacts.{Fair, Sound}
 use Rattle.post.proofs.Shape.{Shape, Width}
 use Rattle.post.proofs.Floors.{heard-floor, floor-settle}
 use Rattle.post.proofs.Standing.{Stands, own-fits, order-fits, phase-fits}
-use Rattle.post.proofs.Settled.{leftOf, kinds-most, upTo-join, many-settled, left-in, left-rises}
 use Rattle.post.proofs.StandsOn.{stands-on}
 
 -- what waits need not be above the floor yet, nor be none where the post is alone
@@ -42,34 +45,51 @@ pub record Ready (p : Post) (ms : List Message) : Type 0 where
 slots-blank : (ms : List Message) (n : ℕ) → drop (length ms) (ms ++ replicate n blank) ≡ replicate (length (drop (length ms) (ms ++ replicate n blank))) blank
 slots-blank ms n = let e = drop-append-seam ms (replicate n blank) in rw (e, length-replicate n blank)
 
-pub settle-waiting : (p : Post) → waitingOf (settle p) ≡ leftOf (floor p) (waitingOf p)
+-- takes and returns are not more than all
+kinds-most : (ms : List Message) → many isTake ms + many isReturn ms ≤ length ms
+unfolding keep
+kinds-most [] = omega arith
+kinds-most (m ∷ ms) =
+    let r = kinds-most ms in
+    let a = many-cons isTake m ms in
+    let b = many-cons isReturn m ms in
+    let c = one (isTake m) (isReturn m) (λ s t. let e = eqb→eq (m .kind) 1 s in let f = eqb→eq (m .kind) 2 t in omega arith) in
+    omega arith
+  where
+    one : (x y : Bool) → (T x → T y → ⊥) → one? x + one? y ≤ 1
+    one true true d = absurd (d tt tt)
+    one true false d = omega arith
+    one false true d = omega arith
+    one false false d = omega arith
+
+pub settle-waiting : (p : Post) → waitingOf (settle p) ≡ leftOf stamp (floor p) (waitingOf p)
 unfolding settle
-settle-waiting p = let left = leftOf (floor p) (waitingOf p) in take-append-seam left (replicate (62 - length left) blank)
+settle-waiting p = let left = leftOf stamp (floor p) (waitingOf p) in take-append-seam left (replicate (62 - length left) blank)
 
 module _ (p : Post) (d : Ready p (waitingOf p)) where
   abbrev gone : List Message
-  gone = upTo (floor p) (waitingOf p)
+  gone = leading stamp (floor p) (waitingOf p)
 
   abbrev left : List Message
-  left = leftOf (floor p) (waitingOf p)
+  left = leftOf stamp (floor p) (waitingOf p)
 
   next-stands : Stands (p .own) (settle p .phase) (settle p .order) (settle p .takes) (settle p .places + settle p .returns) left
   unfolding settle orderAfter
   next-stands =
       stands-on (p .own) gone left (p .phase) (p .order) (p .takes) (p .places) (p .returns)
-      (subst (Stands (p .own) (p .phase) (p .order) (p .takes) (p .places + p .returns)) (sym (upTo-join (floor p) (waitingOf p))) (d .stands))
+      (subst (Stands (p .own) (p .phase) (p .order) (p .takes) (p .places + p .returns)) (sym (leading-join stamp (floor p) (waitingOf p))) (d .stands))
 
   lengths : length gone + length left ≡ length (waitingOf p)
-  lengths = sym (length-append gone left) ∙ ap length (upTo-join (floor p) (waitingOf p))
+  lengths = sym (length-append gone left) ∙ ap length (leading-join stamp (floor p) (waitingOf p))
 
   still-waits : (m : Message) → In m (waitingOf (settle p)) → In m (waitingOf p) × (floor p < stamp m)
-  still-waits m i = left-in (floor p) (waitingOf p) (d .rising) m (subst (In m) (settle-waiting p) i)
+  still-waits m i = left-in stamp (floor p) (waitingOf p) (d .rising) m (subst (In m) (settle-waiting p) i)
 
   -- alone, everything is settled
   none-alone : p .posts ≡ 1 → length left ≡ 0
   none-alone e =
       length-none left (λ m i.
-      let k = left-in (floor p) (waitingOf p) (d .rising) m i in
+      let k = left-in stamp (floor p) (waitingOf p) (d .rising) m i in
       let f = d .fair m (k .0) in
       let c = d .clock (m .sender) (omega arith) in
       let h = heard-floor p m (omega arith) .1 (λ q l n. absurd (n (omega arith))) in
@@ -89,11 +109,11 @@ module _ (p : Post) (d : Ready p (waitingOf p)) where
     absent = d .absent;
     clock = d .clock;
     fair = λ m i. d .fair m (still-waits m i .0);
-    rising = subst (Rising stamp) (sym (settle-waiting p)) (left-rises (floor p) (waitingOf p) (d .rising));
+    rising = subst (Rising stamp) (sym (settle-waiting p)) (left-rises stamp (floor p) (waitingOf p) (d .rising));
     above = λ m i. rw (floor-settle p) (still-waits m i .1);
     alone = none-alone;
     blanks = slots-blank left (62 - length left);
-    few = λ q l n. let a = d .few q l n in let b = many-settled (floor p) (waitingOf p) (by q) in let c = ap (many (by q)) (settle-waiting p) in omega arith;
+    few = λ q l n. let a = d .few q l n in let b = many-leading stamp (floor p) (waitingOf p) (by q) in let c = ap (many (by q)) (settle-waiting p) in omega arith;
     own-few = rw (settle-waiting p) (own-fits _ _ _ _ _ _ _ next-stands);
     sum = let a = kinds-most gone in let b = lengths in omega arith;
     order = order-fits _ _ _ _ _ _ _ next-stands;

@@ -1,6 +1,6 @@
 -- What a sound record has, rule by rule. Assumes nothing.
-use mathlib.Core.Path.{_≡_, refl, ap, ap₂}
-use mathlib.Core.Logic.{inl, inr, ⊎-elim}
+use mathlib.Core.Path.{_≡_, refl, ap₂}
+use mathlib.Core.Logic.{⊎-elim}
 use mathlib.Core.Bool.{Bool, not, _||_}
 use mathlib.Core.List.{List, [], _∷_}
 use Prim.Native.Nat.{ℕ, _+_, _≤_, _<_}
@@ -13,11 +13,12 @@ use Rattle.laws.specs.Below.{sumTo}
 use Rattle.laws.proofs.Tests.{and-l, and-r, or-e}
 use Rattle.laws.proofs.BelowLaws.{allTo-at}
 use Rattle.laws.proofs.ScanLaws.{all-at}
+use Rattle.laws.proofs.LeadingLaws.{rises-above, rises-rising}
 use Rattle.frame.specs.declared.Message.{Message}
 use Rattle.frame.specs.Message.{msg, blank, counted, stamp, by}
 use Rattle.post.specs.declared.Post.{Post}
 use Rattle.post.specs.Record.{lastOf, waitingOf, floor}
-use Rattle.post.specs.Sound.{absentSilent, clockAbove, fair, rises, noneAlone, isBlank, few, ownFew, sumFits, orderFits, numberRules, slotRules, countRules, sound}
+use Rattle.post.specs.Sound.{absentSilent, clockAbove, fair, noneAlone, isBlank, few, ownFew, sumFits, orderFits, numberRules, slotRules, countRules, sound}
 use Rattle.post.proofs.Ranges.{range-is}
 
 pub record Fair (posts : ℕ) (last : List ℕ) (m : Message) : Type 0 where
@@ -58,23 +59,6 @@ fair-is posts last m t =
       low = leb→le 1 (m .counter) (and-l (leb 1 (m .counter)) _ b);
       high = leb→le (m .counter) _ (and-r (leb 1 (m .counter)) _ b);
     }
-
--- a list that rises above t
-pub rises-above : (t : ℕ) (ms : List Message) → T (rises t ms) → (m : Message) → In m ms → t < stamp m
-unfolding rises
-rises-above t (x ∷ ms) r m (inl e) = let h = ltb→lt t (stamp x) (and-l (ltb t (stamp x)) _ r) in let k = ap stamp e in omega arith
-rises-above t (x ∷ ms) r m (inr i) =
-    let h = ltb→lt t (stamp x) (and-l (ltb t (stamp x)) _ r) in
-    let k = rises-above (stamp x) ms (and-r (ltb t (stamp x)) _ r) m i in
-    omega arith
-rises-above t [] r m i = absurd i
-
-pub rises-rising : (t : ℕ) (ms : List Message) → T (rises t ms) → Rising stamp ms
-unfolding rises
-rises-rising t [] r = tt
-rises-rising t (x ∷ ms) r =
-    let s = and-r (ltb t (stamp x)) _ r in
-    (λ y i. rises-above (stamp x) ms s y i, rises-rising (stamp x) ms s)
 
 blank-is : (m : Message) → T (isBlank m) → m ≡ blank
 unfolding isBlank
@@ -120,8 +104,8 @@ sound-has p t =
           (or-e (ltb q (p .posts)) _ (allTo-at 16 (λ x. ltb x (p .posts) || eqb (lastOf p x) 0) (n .1 .1 .1 .0) q l));
       clock = λ q l. leb→le (lastOf p q) (p .clock) (allTo-at 16 (λ x. leb (lastOf p x) (p .clock)) (n .1 .1 .1 .1 .0) q l);
       fair = λ m i. fair-is (p .posts) (p .last) m (all-at (fair (p .posts) (p .last)) (waitingOf p) (w .0) m i);
-      rising = rises-rising (floor p) (waitingOf p) (w .1 .0);
-      above = rises-above (floor p) (waitingOf p) (w .1 .0);
+      rising = rises-rising stamp (floor p) (waitingOf p) (w .1 .0);
+      above = rises-above stamp (floor p) (waitingOf p) (w .1 .0);
       alone = λ e. ⊎-elim (λ y. absurd (T-not (eqb (p .posts) 1) y (rw e tt))) (λ y. eqb→eq (p .waits) 0 y) (or-e (not (eqb (p .posts) 1)) _ (w .1 .1 .0));
       blanks = blanks-are (drop (p .waits) (p .slots)) (w .1 .1 .1 .0);
       few = λ q l d. ⊎-elim (λ y. absurd (d (eqb→eq q (p .own) y))) (λ y. leb→le _ 4 y)

@@ -1,6 +1,4 @@
 -- A record that has what a sound record has passes the test. Assumes nothing.
-use mathlib.Core.Path.{refl}
-use mathlib.Core.Logic.{inl}
 use mathlib.Core.Bool.{Bool, not, _||_}
 use mathlib.Core.List.{List, [], _∷_}
 use Prim.Native.Nat.{ℕ, zero, suc, _+_, _<_}
@@ -8,16 +6,17 @@ use lib.Dec.{T, leb, ltb, eqb, le→leb, lt→ltb, nltb→le, eqb→eq}
 use lib.ListN.{length, getD, drop, replicate}
 use mir.Facts.{yes-and}
 use Rattle.laws.specs.Ladder.{every}
-use Rattle.laws.specs.Lists.{In, all, many, Rising}
+use Rattle.laws.specs.Lists.{all, many}
 use Rattle.laws.specs.Below.{sumTo}
 use Rattle.laws.proofs.Tests.{test, or-l, or-r, neqb→ne}
 use Rattle.laws.proofs.BelowLaws.{at-allTo}
 use Rattle.laws.proofs.CountLaws.{at-all}
+use Rattle.laws.proofs.LeadingLaws.{rises-passes}
 use Rattle.frame.specs.declared.Message.{Message}
 use Rattle.frame.specs.Message.{blank, counted, stamp, by}
 use Rattle.post.specs.declared.Post.{Post}
 use Rattle.post.specs.Record.{lastOf, waitingOf, floor}
-use Rattle.post.specs.Sound.{inRange, absentSilent, clockAbove, fair, rises, noneAlone, isBlank, few, sumFits, numberRules, slotRules, countRules, sound}
+use Rattle.post.specs.Sound.{inRange, absentSilent, clockAbove, fair, noneAlone, isBlank, few, sumFits, numberRules, slotRules, countRules, sound}
 use Rattle.post.proofs.SoundFacts.{Fair, Sound, Each}
 
 fair-passes : (posts : ℕ) (last : List ℕ) (m : Message) → Fair posts last m → T (fair posts last m)
@@ -26,11 +25,6 @@ fair-passes posts last m f =
     yes-and (ltb (m .sender) posts) _ (lt→ltb (m .sender) posts (f .sender)) (
     yes-and (counted m) _ (f .kind) (
     yes-and (leb 1 (m .counter)) _ (le→leb 1 (m .counter) (f .low)) (le→leb (m .counter) (getD last (m .sender) 0) (f .high))))
-
-rises-passes : (t : ℕ) (ms : List Message) → Rising stamp ms → ((m : Message) → In m ms → t < stamp m) → T (rises t ms)
-unfolding rises
-rises-passes t [] r h = tt
-rises-passes t (x ∷ ms) r h = yes-and (ltb t (stamp x)) _ (lt→ltb t (stamp x) (h x (inl refl))) (rises-passes (stamp x) ms (r .1) (r .0))
 
 blank-passes : (n : ℕ) → T (all isBlank (replicate n blank))
 unfolding all isBlank
@@ -70,7 +64,7 @@ module _ (p : Post) (s : Sound p) where
       all-of (slotRules p) (
         at-all (fair (p .posts) (p .last)) (waitingOf p) (λ m i. fair-passes (p .posts) (p .last) m (s .fair m i)),
         (
-          rises-passes (floor p) (waitingOf p) (s .rising) (s .above),
+          rises-passes stamp (floor p) (waitingOf p) (s .rising) (s .above),
           (
             alone,
             (rw (s .blanks) (blank-passes (length (drop (p .waits) (p .slots)))), (at-allTo (p .posts) _ few-each, (s .own-few, tt))),

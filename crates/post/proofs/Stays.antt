@@ -5,13 +5,13 @@ use mathlib.Core.List.{List}
 use Prim.Native.Nat.{ℕ, _+_, _≤_, _<_, max}
 use native.Mathlib.Omega.{arith}
 use borrow.Author.Tests.{eq-eqb}
-use lib.Dec.{T, eqb, eqb→eq, eqb-refl, T-not, not-T}
+use lib.Dec.{T, eqb→eq, eqb-refl, T-not, not-T}
 use lib.ListN.{length, set}
 use lib.Seq.{getD-set-same, getD-set-other}
-use Rattle.laws.specs.Ladder.{refusal}
 use Rattle.laws.specs.Below.{one?}
 use Rattle.laws.specs.Lists.{many, put}
 use Rattle.laws.proofs.Tests.{cond-both, and-l}
+use Rattle.laws.proofs.RefusalLaws.{unless-both}
 use Rattle.laws.proofs.RisingLaws.{keep-put-no}
 use Rattle.laws.proofs.CountLaws.{many-put}
 use Rattle.frame.specs.declared.Message.{Message}
@@ -21,7 +21,7 @@ use Rattle.post.specs.declared.Post.{Post}
 use Rattle.post.specs.Record.{waitingOf}
 use Rattle.post.specs.Sound.{endKind}
 use Rattle.post.specs.Settle.{settle}
-use Rattle.post.specs.Calls.{spoken, ackClock, came, noted, takeRows, returnRows, receiveRows, Outcome, unless, took, gaveBack, heardFrom, received}
+use Rattle.post.specs.Calls.{spoken, ackClock, came, noted, takeRows, returnRows, receiveRows, Outcome, stays, took, gaveBack, heardFrom, received}
 use Rattle.post.proofs.Shape.{Kept}
 use Rattle.post.proofs.SoundFacts.{Sound, sound-has}
 use Rattle.post.proofs.Above.{waiting-below}
@@ -120,25 +120,23 @@ module _ (p : Post) (k : Kept p) (s : Sound p) where
 -- the calls, refused or not
 module _ (p : Post) (k : Kept p) where
   pub took-kept : (lent : List ℕ) → Kept (took p lent .gives .post)
-  unfolding unless
   took-kept lent =
-      cond-both (λ (o : Outcome). Kept (o .gives .post)) (eqb (refusal (takeRows p (length lent))) 0) _ _
-      (λ y. take-kept p k (sound-has p (k .sound)) (take-speaks p (length lent) (eqb→eq (refusal (takeRows p (length lent))) 0 y)))
-      (λ n. k)
+      unless-both (λ (o : Outcome). Kept (o .gives .post)) (takeRows p (length lent)) (stays p lent) _
+      (λ z. take-kept p k (sound-has p (k .sound)) (take-speaks p (length lent) z))
+      (λ n z. k)
 
   pub gaveBack-kept : (lent : List ℕ) → Kept (gaveBack p lent .gives .post)
-  unfolding unless
   gaveBack-kept lent =
-      cond-both (λ (o : Outcome). Kept (o .gives .post)) (eqb (refusal (returnRows p (length lent))) 0) _ _
-      (λ y. return-kept p k (sound-has p (k .sound)) (return-speaks p (length lent) (eqb→eq (refusal (returnRows p (length lent))) 0 y)))
-      (λ n. k)
+      unless-both (λ (o : Outcome). Kept (o .gives .post)) (returnRows p (length lent)) (stays p lent) _
+      (λ z. return-kept p k (sound-has p (k .sound)) (return-speaks p (length lent) z))
+      (λ n z. k)
 
   pub received-kept : (t lent : List ℕ) → (fieldsOf t .message) .counter ≤ lastCounter → Kept (received p t lent .gives .post)
-  unfolding unless heardFrom
+  unfolding heardFrom
   received-kept t lent fits =
-      cond-both (λ (o : Outcome). Kept (o .gives .post)) (eqb (refusal (receiveRows p t (length lent))) 0) _ _
-      (λ y. let m = fieldsOf t .message in
+      unless-both (λ (o : Outcome). Kept (o .gives .post)) (receiveRows p t (length lent)) (stays p lent) _
+      (λ z. let m = fieldsOf t .message in
       let s = sound-has p (k .sound) in
-      let a = accepted p t (length lent) (eqb→eq (refusal (receiveRows p t (length lent))) 0 y) .1 in
+      let a = accepted p t (length lent) z .1 in
       cond-both (λ (o : Outcome). Kept (o .gives .post)) (counted m) _ _ (came-kept p k s m a fits) (λ c. noted-kept p k s m a fits))
-      (λ n. k)
+      (λ n z. k)

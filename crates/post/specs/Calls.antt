@@ -1,32 +1,18 @@
 -- What each call gives back and leaves, for every record, every frame and every lent buffer.
 use Rattle.laws.specs.Words.{_≡_, Bool, true, false, not, cond, _&&_, List, [], _∷_, ℕ, _+_, max, ltb, eqb, pos, _-ℤ_, length, set}
-use Rattle.laws.specs.Ladder.{Row, _when_, refusal}
-use Rattle.laws.specs.Lists.{many, put}
-use Rattle.laws.specs.Below.{countTo, bitsTo}
-use Rattle.frame.specs.declared.Message.{Message}
-use Rattle.frame.specs.Message.{msg, isTake, counted, stampOf, stamp, by}
-use Rattle.frame.specs.Frame.{over, fieldsOf}
-use Rattle.frame.specs.Table.{takeTests, returnTests, receiveTests}
-use Rattle.post.specs.declared.Post.{Post}
-use Rattle.post.specs.declared.Started.{Started}
-use Rattle.post.specs.declared.Answer.{Answer}
-use Rattle.post.specs.declared.Value.{Value}
-use Rattle.post.specs.declared.Missing.{Missing}
-use Rattle.post.specs.Record.{lastOf, waitingOf, fresh, remade}
-use Rattle.post.specs.Sound.{inRange, sound}
-use Rattle.post.specs.Settle.{settle}
+use Rattle.laws.specs.{Ladder.{Row, _when_, unless}, Lists.{many, put}, Below.{countTo, bitsTo}}
+use Rattle.frame.specs.{declared.Message.{Message}, Message.{msg, counted, stampOf, stamp, by, ownTake}, Frame.{over, fieldsOf}, Table.{takeTests, returnTests, receiveTests}}
+use Rattle.post.specs.declared.{Post.{Post}, Started.{Started}, Answer.{Answer}, Value.{Value}, Missing.{Missing}}
+use Rattle.post.specs.{Record.{lastOf, waitingOf, fresh, remade}, Sound.{inRange, sound}, Settle.{settle}}
 
--- ---- start
-
+-- a start; a refused one gives the all-zero record
 unfoldable pub started : ℕ → ℕ → ℕ → ℕ → Started
 started posts own feeder places =
     cond (inRange posts own feeder places)
     (record { post = fresh posts own feeder places; number = 0 })
     (record { post = fresh 0 0 0 0; number = 1 })
 
--- ---- the record before anything is settled
-
--- with an own take or return: the clock rises by 1, and the message bears it
+-- the record before anything is settled, with an own take or return: the clock rises by 1, and the message bears it
 unfoldable pub spoken : Post → ℕ → ℕ → Post
 spoken p kind phase =
     let c = p .clock + 1 in
@@ -49,8 +35,7 @@ came p m = joined p m (ackClock p m) (p .phase) (p .order)
 unfoldable pub noted : Post → Message → Post
 noted p m = remade p (max (p .clock) (m .counter)) (set (p .last) (m .sender) (m .counter)) (waitingOf p) (p .phase) (p .order)
 
--- ---- the refusals; n is the length of the lent buffer
-
+-- the refusals of each call; n is the length of the lent buffer
 unfoldable pub takeRows : Post → ℕ → List Row
 takeRows p n = 1 when not (sound p) ∷ takeTests (p .phase) (p .clock) n
 
@@ -60,8 +45,6 @@ returnRows p n = 1 when not (sound p) ∷ returnTests (p .phase) (p .clock) n
 unfoldable pub receiveRows : Post → List ℕ → ℕ → List Row
 receiveRows p s n =
     1 when not (sound p) ∷ receiveTests (p .posts) (p .own) (p .feeder) (p .clock) (lastOf p) (λ q. many (by q) (waitingOf p)) s n
-
--- ---- the calls
 
 -- a call's answer, and the lent bytes at its end
 pub record Outcome : Type 0 where
@@ -77,12 +60,12 @@ pub record Gives (o : Outcome) (result : Answer) (after : List ℕ) : Type 0 whe
 abbrev pub answer : ℕ → Post → Bool → Answer
 answer before p wrote = record { post = p; number = 0; wrote = wrote; granted = not (eqb before 3) && eqb (p .phase) 3 }
 
+-- refused: the record and the lent bytes stay
 abbrev pub refused : Post → ℕ → Answer
 refused p n = record { post = p; number = n; wrote = false; granted = false }
 
--- refused by the first row that applies; done where none does
-unfoldable pub unless : Post → List ℕ → List Row → Outcome → Outcome
-unless p lent rows done = cond (eqb (refusal rows) 0) done (record { gives = refused p (refusal rows); leaves = lent })
+abbrev pub stays : Post → List ℕ → ℕ → Outcome
+stays p lent n = record { gives = refused p n; leaves = lent }
 
 -- a message goes out, and the record is settled
 abbrev pub writing : Post → Post → Message → List ℕ → Outcome
@@ -93,10 +76,10 @@ abbrev pub said : Post → ℕ → ℕ → List ℕ → Outcome
 said p kind phase lent = writing p (spoken p kind phase) (msg kind (p .own) (p .clock + 1)) lent
 
 abbrev pub took : Post → List ℕ → Outcome
-took p lent = unless p lent (takeRows p (length lent)) (said p 1 1 lent)
+took p lent = unless (takeRows p (length lent)) (stays p lent) (said p 1 1 lent)
 
 abbrev pub gaveBack : Post → List ℕ → Outcome
-gaveBack p lent = unless p lent (returnRows p (length lent)) (said p 2 0 lent)
+gaveBack p lent = unless (returnRows p (length lent)) (stays p lent) (said p 2 0 lent)
 
 -- a message comes in; a take or return is acknowledged
 abbrev pub acknowledged : Post → Message → List ℕ → Outcome
@@ -106,9 +89,7 @@ unfoldable pub heardFrom : Post → Message → List ℕ → Outcome
 heardFrom p m lent = cond (counted m) (acknowledged p m lent) (record { gives = answer (p .phase) (settle (noted p m)) false; leaves = lent })
 
 abbrev pub received : Post → List ℕ → List ℕ → Outcome
-received p s lent = unless p lent (receiveRows p s (length lent)) (heardFrom p (fieldsOf s .message) lent)
-
--- ---- the inquiries
+received p s lent = unless (receiveRows p s (length lent)) (stays p lent) (heardFrom p (fieldsOf s .message) lent)
 
 -- K + settled returns - settled takes
 unfoldable pub valued : Post → Value
@@ -120,7 +101,7 @@ valued p =
 -- the stamp of the own take that waits; 0 where none does
 unfoldable pub ownStamp : ℕ → List Message → ℕ
 ownStamp own [] = 0
-ownStamp own (m ∷ ms) = cond (by own m && isTake m) (stamp m) (ownStamp own ms)
+ownStamp own (m ∷ ms) = cond (ownTake own m) (stamp m) (ownStamp own ms)
 
 -- another post whose last stamp is below the own unsettled take
 unfoldable pub lacks : Post → ℕ → Bool

@@ -1,18 +1,12 @@
 -- What functions inside the crate promise each other, where a record says it best.
-use Rattle.laws.specs.Words.{Bool, true, _&&_, List, _≡_, ℕ, _+_, _-_, _^_, _≤_, _<_, length, getD, drop, replicate}
-use Rattle.laws.specs.Lists.{all, many}
-use Rattle.frame.specs.declared.Message.{Message}
-use Rattle.frame.specs.Message.{blank, isTake, isReturn, by, ownTake, ownReturn}
-use Rattle.post.specs.declared.Post.{Post}
-use Rattle.post.specs.declared.slots.Seen.{Seen}
-use Rattle.post.specs.declared.slots.Gone.{Gone}
-use Rattle.post.specs.Record.{waitingOf}
-use Rattle.post.specs.Settle.{ownNumber}
-use Rattle.post.specs.Sound.{fair, rises, isBlank, endKind}
+use Rattle.laws.specs.{Words.{Bool, true, _&&_, List, _≡_, ℕ, _+_, _-_, _^_, _≤_, _<_, length, getD, drop, replicate}, Lists.{all, many, rises}}
+use Rattle.frame.specs.{declared.Message.{Message}, Message.{blank, isTake, isReturn, stamp, by, ownTake, ownReturn}}
+use Rattle.post.specs.declared.{Post.{Post}, slots.{Seen.{Seen}, Gone.{Gone}}}
+use Rattle.post.specs.{Record.{waitingOf}, Settle.{ownNumber}, Sound.{fair, isBlank, endKind}}
 
 -- a look over messages above the floor t, and over the slots after them
 pub record Looked (posts own : ℕ) (last : List ℕ) (t : ℕ) (ms unused : List Message) (seen : Seen) : Type 0 where
-  pub orderly : seen .orderly ≡ ((all (fair posts last) ms && rises t ms) && all isBlank unused)
+  pub orderly : seen .orderly ≡ ((all (fair posts last) ms && rises stamp t ms) && all isBlank unused)
   pub counts : seen .orderly ≡ true → (q : ℕ) → q < 16 → getD (seen .counts) q 0 ≡ many (by q) ms
   pub takes : seen .orderly ≡ true → seen .takes ≡ many (ownTake own) ms
   pub returns : seen .orderly ≡ true → seen .returns ≡ many (ownReturn own) ms

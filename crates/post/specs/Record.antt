@@ -1,7 +1,6 @@
 -- The post's short record: what its fields say, how it starts, and the record with other messages waiting.
-use Rattle.laws.specs.Words.{cond, List, _++_, ℕ, zero, suc, _-_, _^_, min, eqb, length, getD, take, replicate}
-use Rattle.frame.specs.declared.Message.{Message}
-use Rattle.frame.specs.Message.{blank, stampOf}
+use Rattle.laws.specs.{Words.{List, _++_, ℕ, _-_, _^_, length, getD, take, replicate}, Below.{leastTo}}
+use Rattle.frame.specs.{declared.Message.{Message}, Message.{blank, stampOf}}
 use Rattle.post.specs.declared.Post.{Post}
 
 -- the last counter of post q
@@ -12,14 +11,9 @@ lastOf p q = getD (p .last) q 0
 abbrev pub waitingOf : Post → List Message
 waitingOf p = take (p .waits) (p .slots)
 
--- the least of f over the posts below n but own; above every stamp where there is none
-unfoldable pub leastTo : ℕ → ℕ → (ℕ → ℕ) → ℕ
-leastTo zero own f = 2 ^ 40
-leastTo (suc n) own f = cond (eqb n own) (leastTo n own f) (min (f n) (leastTo n own f))
-
--- the floor: the least stamp (last counter, post) over the other posts
+-- the floor: the least stamp (last counter, post) over the other posts; above every stamp where there is none
 unfoldable pub floor : Post → ℕ
-floor p = leastTo (p .posts) (p .own) (λ q. stampOf (lastOf p q) q)
+floor p = leastTo (p .posts) (p .own) (2 ^ 40) (λ q. stampOf (lastOf p q) q)
 
 -- messages in 62 slots, the unused ones zero
 abbrev pub inSlots : List Message → List Message
@@ -27,20 +21,8 @@ inSlots ms = ms ++ replicate (62 - length ms) blank
 
 -- a record by its fields
 abbrev pub made : ℕ → ℕ → ℕ → ℕ → ℕ → List ℕ → ℕ → List Message → ℕ → ℕ → ℕ → ℕ → Post
-made posts own feeder places clock last waits slots takes returns phase order = record {
-  posts = posts;
-  own = own;
-  feeder = feeder;
-  places = places;
-  clock = clock;
-  last = last;
-  waits = waits;
-  slots = slots;
-  takes = takes;
-  returns = returns;
-  phase = phase;
-  order = order;
-}
+made posts own feeder places clock last waits slots takes returns phase order =
+    record { posts = posts; own = own; feeder = feeder; places = places; clock = clock; last = last; waits = waits; slots = slots; takes = takes; returns = returns; phase = phase; order = order }
 
 -- a record as it starts
 unfoldable pub fresh : ℕ → ℕ → ℕ → ℕ → Post

@@ -1,15 +1,7 @@
 -- What is settled leaves the slots in stamp order and is counted.
-use Rattle.laws.specs.Words.{cond, List, [], _∷_, ℕ, _+_, leb, ltb, eqb, length, drop}
-use Rattle.laws.specs.Lists.{many}
-use Rattle.frame.specs.declared.Message.{Message}
-use Rattle.frame.specs.Message.{isTake, isReturn, stamp, by}
-use Rattle.post.specs.declared.Post.{Post}
-use Rattle.post.specs.Record.{waitingOf, floor, inSlots, made}
-
--- the messages before the first whose stamp is above t
-unfoldable pub upTo : ℕ → List Message → List Message
-upTo t [] = []
-upTo t (m ∷ ms) = cond (ltb t (stamp m)) [] (m ∷ upTo t ms)
+use Rattle.laws.specs.{Words.{cond, List, [], _∷_, ℕ, _+_, leb, eqb, length, drop}, Lists.{many, leading}}
+use Rattle.frame.specs.{declared.Message.{Message}, Message.{isTake, isReturn, stamp, by}}
+use Rattle.post.specs.{declared.Post.{Post}, Record.{waitingOf, floor, inSlots, made}}
 
 -- after n takes: how many takes there are up to and including the own one; 0 where it is not there
 unfoldable pub ownNumber : ℕ → ℕ → List Message → ℕ
@@ -28,7 +20,7 @@ phaseAfter phase order room =
 -- the record once the messages that are settled have left
 unfoldable pub settle : Post → Post
 settle p =
-    let gone = upTo (floor p) (waitingOf p) in
+    let gone = leading stamp (floor p) (waitingOf p) in
     let left = drop (length gone) (waitingOf p) in
     let returns = p .returns + many isReturn gone in
     let order = orderAfter p gone in

@@ -1,12 +1,8 @@
 -- When a record is sound: document 01's rules, one definition each, in its order.
-use Rattle.laws.specs.Words.{Bool, true, not, cond, _&&_, _||_, List, [], _∷_, ℕ, _+_, leb, ltb, eqb, getD, drop}
-use Rattle.laws.specs.Ladder.{every}
-use Rattle.laws.specs.Lists.{all, many}
-use Rattle.laws.specs.Below.{allTo, sumTo}
-use Rattle.frame.specs.declared.Message.{Message}
-use Rattle.frame.specs.Message.{counted, stamp, by, ownTake, ownReturn}
-use Rattle.post.specs.declared.Post.{Post}
-use Rattle.post.specs.Record.{lastOf, waitingOf, floor}
+use Rattle.laws.specs.Words.{Bool, not, cond, _&&_, _||_, List, [], _∷_, ℕ, _+_, leb, ltb, eqb, getD, drop}
+use Rattle.laws.specs.{Ladder.{every}, Lists.{all, many, rises}, Below.{allTo, sumTo}}
+use Rattle.frame.specs.{declared.Message.{Message}, Message.{counted, stamp, by, ownTake, ownReturn}}
+use Rattle.post.specs.{declared.Post.{Post}, Record.{lastOf, waitingOf, floor}}
 
 -- N is 1 to 16, own number below N, K 1 to 16; feeder is 0 to 255
 unfoldable pub inRange : ℕ → ℕ → ℕ → ℕ → Bool
@@ -23,11 +19,6 @@ clockAbove p = allTo 16 (λ q. leb (lastOf p q) (p .clock))
 -- a waiting message is of a sender below N, a take or return, with a counter from 1 to that sender's last
 unfoldable pub fair : ℕ → List ℕ → Message → Bool
 fair posts last m = ltb (m .sender) posts && (counted m && (leb 1 (m .counter) && leb (m .counter) (getD last (m .sender) 0)))
-
--- each stamp is above the one before it, and the first above t
-unfoldable pub rises : ℕ → List Message → Bool
-rises t [] = true
-rises t (m ∷ ms) = ltb t (stamp m) && rises (stamp m) ms
 
 -- none wait if N = 1
 unfoldable pub noneAlone : Post → Bool
@@ -71,10 +62,11 @@ orderFits phase order takes room =
 unfoldable pub numberRules : Post → List Bool
 numberRules p = inRange (p .posts) (p .own) (p .feeder) (p .places) ∷ leb (p .phase) 3 ∷ leb (p .waits) 62 ∷ absentSilent p ∷ clockAbove p ∷ []
 
+-- each waiting stamp is above the one before it, and the first above the floor
 unfoldable pub slotRules : Post → List Bool
 slotRules p =
     all (fair (p .posts) (p .last)) (waitingOf p)
-    ∷ rises (floor p) (waitingOf p)
+    ∷ rises stamp (floor p) (waitingOf p)
     ∷ noneAlone p
     ∷ all isBlank (drop (p .waits) (p .slots))
     ∷ allTo (p .posts) (few p)

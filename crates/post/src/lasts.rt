@@ -6,9 +6,8 @@ ghost use mathlib.Core.Bool.{cond, not, _&&_, _||_};
 ghost use Prim.Native.Nat.{_≤_, _<_, _^_, min};
 ghost use lib.Dec.{leb, ltb, eqb};
 ghost use lib.ListN.{getD};
-ghost use Rattle.laws.specs.Below.{allTo, sumTo, bitsTo};
+ghost use Rattle.laws.specs.Below.{allTo, sumTo, bitsTo, leastTo};
 ghost use Rattle.frame.specs.Message.{stampOf};
-ghost use Rattle.post.specs.Record.{leastTo};
 
 // The most that a last counter can be is the clock, and 0 where there is no post.
 fn fits(posts: u8, clock: u32, q: usize, c: u32) -> bool
@@ -70,7 +69,7 @@ fn lower(own: usize, q: usize, c: u32, f: u64) -> u64
 // The floor: the least stamp over the other posts, above every stamp where there is none.
 pub(crate) fn floor(last: [u32; 16], posts: usize, own: usize) -> u64
     requires { ⌜ posts ≤ 16 ⌝ }
-    ensures { λ r. ⌜ r ≡ leastTo posts own (λ q. stampOf (getD last q 0) q) ⌝ }
+    ensures { λ r. ⌜ r ≡ leastTo posts own (2 ^ 40) (λ q. stampOf (getD last q 0) q) ⌝ }
 {
     let mut f: u64 = 0x100_0000_0000;
     let mut q = 0;

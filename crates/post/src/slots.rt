@@ -3,13 +3,13 @@ use crate::stamp;
 use frame::Message;
 ghost use mathlib.Core.Path.{_≡_};
 ghost use mathlib.Core.Bool.{false, cond, _&&_};
-ghost use Prim.Native.Nat.{_≤_, _<_, _+_, _-_, _^_};
+ghost use Prim.Native.Nat.{_≤_, _<_, _+_, _^_};
 ghost use lib.Dec.{leb, eqb};
 ghost use lib.ListN.{take, drop};
+ghost use Rattle.laws.specs.Lists.{leading};
 ghost use Rattle.laws.specs.Below.{one?};
 ghost use Rattle.frame.specs.Message.{isTake, counted, stamp, by};
 ghost use Rattle.post.specs.Sound.{isBlank};
-ghost use Rattle.post.specs.Settle.{upTo};
 ghost use Rattle.post.specs.Calls.{ownStamp};
 ghost use Rattle.post.specs.Inside.{Looked, Left};
 
@@ -177,7 +177,7 @@ fn number_of(order: u64, takes: u64, own: u8, m: Message) -> u64
 
 pub(crate) fn leaving(slots: [Message; 62], n: usize, floor: u64, own: u8, takes: u64) -> Gone
     requires { ⌜ (n ≤ 62) × (takes < 2 ^ 62) ⌝ }
-    ensures { λ r. ⌜ Left own takes (upTo floor (take n slots)) r ⌝ }
+    ensures { λ r. ⌜ Left own takes (leading stamp floor (take n slots)) r ⌝ }
 {
     let mut tk = takes;
     let mut rt = 0u64;

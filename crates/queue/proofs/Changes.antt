@@ -4,18 +4,18 @@ use mathlib.Core.Path.{_≡_}
 use mathlib.Core.List.{List, [], _∷_}
 use Prim.Native.Nat.{ℕ, _<_}
 use native.Mathlib.Omega.{arith}
-use lib.Dec.{T, eqb, eqb→eq}
+use lib.Dec.{T, eqb}
 use lib.ListN.{length}
 use Rattle.laws.specs.Ladder.{refusal}
 use Rattle.laws.specs.Lists.{many}
-use Rattle.laws.proofs.Tests.{cond-both}
+use Rattle.laws.proofs.RefusalLaws.{unless-both}
 use Rattle.frame.specs.Message.{lastCounter, by}
 use Rattle.frame.specs.Frame.{fieldsOf}
 use Rattle.frame.specs.Table.{takeTests, returnTests}
 use Rattle.frame.proofs.Passing.{take-passed, return-passed, receive-passed}
 use Rattle.queue.specs.Queue.{Start, Queue, clock, last, waiting, phase}
 use Rattle.queue.specs.Replies.{Call, take-call, return-call, receive-call, value-call, missing-call, Answer, after}
-use Rattle.queue.specs.Calls.{say, acks, accept, receiveRows, unless, said, received, onQueue, queueAfter}
+use Rattle.queue.specs.Calls.{say, acks, accept, receiveRows, said, received, onQueue}
 use Rattle.queue.proofs.Good.{New, Good, good-say, good-accept}
 
 -- the queues that a call may leave
@@ -41,28 +41,25 @@ module _ (st : Start) (q : Queue) where
       }
 
   pub change : (c : Call) → Change st q c (onQueue st q c .next)
-  unfolding onQueue unless said received
+  unfolding onQueue said received
   change (take-call lent) =
-      let rows = takeTests (phase st q) (clock q) (length lent) in
-      cond-both {A = Answer Queue} (λ a. Change st q (take-call lent) (a .next)) (eqb (refusal rows) 0) _ _
-      (λ y. let h = take-passed _ _ (length lent) (eqb→eq (refusal rows) 0 y) in took (rw (h .phase) tt) (h .clock))
-      (λ n. unchanged)
+      unless-both {A = Answer Queue} (λ a. Change st q (take-call lent) (a .next)) (takeTests (phase st q) (clock q) (length lent)) _ _
+      (λ z. let h = take-passed _ _ (length lent) z in took (rw (h .phase) tt) (h .clock))
+      (λ n d. unchanged)
   change (return-call lent) =
-      let rows = returnTests (phase st q) (clock q) (length lent) in
-      cond-both {A = Answer Queue} (λ a. Change st q (return-call lent) (a .next)) (eqb (refusal rows) 0) _ _
-      (λ y. let h = return-passed _ _ (length lent) (eqb→eq (refusal rows) 0 y) in gave-back (rw (h .phase) tt) (h .clock))
-      (λ n. unchanged)
+      unless-both {A = Answer Queue} (λ a. Change st q (return-call lent) (a .next)) (returnTests (phase st q) (clock q) (length lent)) _ _
+      (λ z. let h = return-passed _ _ (length lent) z in gave-back (rw (h .phase) tt) (h .clock))
+      (λ n d. unchanged)
   change (receive-call s lent) =
-      let rows = receiveRows st q s (length lent) in
-      cond-both {A = Answer Queue} (λ a. Change st q (receive-call s lent) (a .next)) (eqb (refusal rows) 0) _ _
-      (λ y. accepted (receives-new s (length lent) (eqb→eq (refusal rows) 0 y)))
-      (λ n. unchanged)
+      unless-both {A = Answer Queue} (λ a. Change st q (receive-call s lent) (a .next)) (receiveRows st q s (length lent)) _ _
+      (λ z. accepted (receives-new s (length lent) z))
+      (λ n d. unchanged)
   change value-call = unchanged
   change missing-call = unchanged
 
 -- what each change keeps, a list of calls keeps
 pub after-calls : (st : Start) (P : Queue → Type 0) → ((c : Call) (q q′ : Queue) → Change st q c q′ → P q → P q′) → (calls : List Call) (q : Queue)
-    → P q → P (queueAfter st q calls)
+    → P q → P (after (onQueue st) q calls)
 unfolding after
 after-calls st P kept [] q h = h
 after-calls st P kept (c ∷ calls) q h = let q′ = onQueue st q c .next in after-calls st P kept calls q′ (kept c q q′ (change st q c) h)

@@ -8,9 +8,10 @@ use native.Mathlib.Omega.{arith}
 use lib.Dec.{T, eqb, T-not, eqb→eq}
 use lib.ListN.{length}
 use mir.Facts.{yes-and}
-use Rattle.laws.specs.Ladder.{Row, refusal}
+use Rattle.laws.specs.Ladder.{Row, unless}
 use Rattle.laws.specs.Lists.{In, put}
 use Rattle.laws.proofs.Tests.{test, cond-both, and-l, and-r, or-l}
+use Rattle.laws.proofs.RefusalLaws.{unless-both}
 use Rattle.laws.proofs.ListLaws.{in-cast, in-left, in-right, in-append}
 use Rattle.laws.proofs.RisingLaws.{rising-unique, rising-same, rising-snoc, in-put}
 use Rattle.frame.specs.declared.Message.{Message}
@@ -19,7 +20,7 @@ use Rattle.frame.specs.Frame.{fieldsOf}
 use Rattle.frame.specs.Table.{takeTests, returnTests}
 use Rattle.queue.specs.Queue.{Start, Queue, clock, grants, latest, phase}
 use Rattle.queue.specs.Replies.{Call, take-call, return-call, receive-call, value-call, missing-call, Answer, refused, after}
-use Rattle.queue.specs.Calls.{saying, say, acks, accept, grantCame, receiveRows, unless, said, received, onQueue, queueAfter}
+use Rattle.queue.specs.Calls.{saying, say, acks, accept, grantCame, receiveRows, said, received, onQueue}
 use Rattle.queue.specs.Demand3.{marked, markedTakes}
 use Rattle.queue.proofs.Good.{Good, New, in-say, say-above}
 use Rattle.queue.proofs.Changes.{Change, unchanged, took, gave-back, accepted, change, good-change}
@@ -156,12 +157,10 @@ none true = refl
 none false = refl
 
 told-or-refused : (st : Start) (q : Queue) (rows : List Row) (lent : List ℕ) (a : Answer Queue) → marked (a .reply) ≡ grantCame st q (a .next)
-    → let b = unless q lent rows a in marked (b .reply) ≡ grantCame st q (b .next)
-unfolding unless grantCame
+    → let b = unless rows (refused q lent) a in marked (b .reply) ≡ grantCame st q (b .next)
+unfolding grantCame
 told-or-refused st q rows lent a e =
-    cond-both {A = Answer Queue} (λ b. marked (b .reply) ≡ grantCame st q (b .next)) (eqb (refusal rows) 0) a (refused q (refusal rows) lent)
-    (λ y. e)
-    (λ n. none (holds st q))
+    unless-both {A = Answer Queue} (λ b. marked (b .reply) ≡ grantCame st q (b .next)) rows (refused q lent) a (λ z. e) (λ n d. none (holds st q))
 
 pub mark-came : (st : Start) (q : Queue) (c : Call) → marked (onQueue st q c .reply) ≡ grantCame st q (onQueue st q c .next)
 unfolding onQueue said received grantCame
@@ -172,7 +171,7 @@ mark-came st q value-call = none (holds st q)
 mark-came st q missing-call = none (holds st q)
 
 pub grants-marked : (st : Start) (calls : List Call) (q : Queue) → Good st q → Paid st q
-    → grants st (queueAfter st q calls) ≡ grants st q ++ markedTakes st q calls
+    → grants st (after (onQueue st) q calls) ≡ grants st q ++ markedTakes st q calls
 unfolding after markedTakes
 grants-marked st [] q g p = sym (append-nil (grants st q))
 grants-marked st (c ∷ calls) q g p =

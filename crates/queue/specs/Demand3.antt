@@ -4,13 +4,13 @@ use Rattle.laws.specs.Lists.{In, keep, Begins}
 use Rattle.frame.specs.declared.Message.{Message}
 use Rattle.frame.specs.Message.{counted}
 use Rattle.queue.specs.Queue.{Start, Queue, settled, takes, number, grants, latest}
-use Rattle.queue.specs.Replies.{Call, Reply, told, worth, lacking}
-use Rattle.queue.specs.Calls.{onQueue, queueAfter}
+use Rattle.queue.specs.Replies.{Call, Reply, told, worth, lacking, after}
+use Rattle.queue.specs.Calls.{onQueue}
 use Rattle.queue.specs.Feeder.{Line, start, Feeder, fresh, sent, had, Act, run, returnsSent, granted, holding}
 
 -- each post's queue was made by calls at that post, with any frames and buffers
 abbrev pub Reached : Line → Feeder → Type 0
-Reached L s = (p : ℕ) → p < L .posts → (calls : List Call) × (s p ≡ queueAfter (start L p) [] calls)
+Reached L s = (p : ℕ) → p < L .posts → (calls : List Call) × (s p ≡ after (onQueue (start L p)) [] calls)
 
 -- what a post has accepted of another is the first so many messages it sent
 abbrev pub Faithful : Line → Feeder → Type 0
@@ -57,4 +57,4 @@ markedTakes st q (c ∷ calls) =
 
 -- the granted takes are those whose call gave the mark, each exactly once
 abbrev pub Marks : Type 0
-Marks = (st : Start) → st .posts ≤ 16 → st .own < st .posts → (calls : List Call) → grants st (queueAfter st [] calls) ≡ markedTakes st [] calls
+Marks = (st : Start) → st .posts ≤ 16 → st .own < st .posts → (calls : List Call) → grants st (after (onQueue st) [] calls) ≡ markedTakes st [] calls

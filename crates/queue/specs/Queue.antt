@@ -1,9 +1,7 @@
 -- A post by its full queue: every message that it sent or accepted, sorted by stamp. All else is worked out from that list.
 use Rattle.laws.specs.Words.{Bool, not, cond, _&&_, _||_, List, ℕ, _+_, leb, ltb, eqb, ℤ, pos, _-ℤ_, length}
-use Rattle.laws.specs.Lists.{keep, many, final, upto, top}
-use Rattle.laws.specs.Below.{allTo}
-use Rattle.frame.specs.declared.Message.{Message}
-use Rattle.frame.specs.Message.{msg, isTake, isReturn, counted, stampOf, stamp, by}
+use Rattle.laws.specs.{Lists.{keep, many, final, upto, top}, Below.{allTo}}
+use Rattle.frame.specs.{declared.Message.{Message}, Message.{msg, isTake, isReturn, counted, stampOf, stamp, by}}
 
 -- what a post is started with
 pub record Start : Type 0 where

@@ -17,8 +17,8 @@ pub record Answer (S : Type 0) : Type 0 where
   pub next : S
   pub reply : Reply
 
-abbrev pub refused : {S : Type 0} → S → ℕ → List ℕ → Answer S
-refused s n lent = record { next = s; reply = told n false false lent }
+abbrev pub refused : {S : Type 0} → S → List ℕ → ℕ → Answer S
+refused s lent n = record { next = s; reply = told n false false lent }
 
 -- calls one after another: the state after them, and what each gives back
 module _ {S : Type 0} (step : S → Call → Answer S) where

@@ -6,14 +6,15 @@ use mathlib.Core.List.{List}
 use native.Mathlib.Omega.{arith}
 use lib.ListN.{length, getD, set}
 use lib.Seq.{length-take-le}
+use Rattle.laws.specs.Lists.{leading}
 use Rattle.laws.proofs.ScanLaws.{many-length}
 use Rattle.laws.proofs.ShiftLaws.{Moved, begins, one-moved, one-cleared}
 use Rattle.frame.specs.declared.Message.{Message}
-use Rattle.frame.specs.Message.{blank, isReturn}
+use Rattle.frame.specs.Message.{blank, isReturn, stamp}
 use Rattle.post.specs.declared.Post.{Post}
 use Rattle.post.specs.Record.{waitingOf, made}
-use Rattle.post.specs.Settle.{upTo, settle}
-use Rattle.post.proofs.Leaving.{upTo-length}
+use Rattle.post.specs.Settle.{settle}
+use Rattle.laws.proofs.LeadingLaws.{leading-length}
 use Rattle.post.proofs.Answering.{is-answer}
 use Rattle.post.proofs.Remaking.{length-mapped, with-slots, moved-slots, settles-as}
 use Rattle.post.proofs.Post.settled.Statement.{statement}
@@ -47,8 +48,8 @@ few c =
     let s = c .before .before .before .before in
     let l = waits s in
     let ms = waitingOf (s .args .t1) in
-    let h = upTo-length (c .before .floor .result) ms in
-    let m = many-length isReturn (upTo (c .before .floor .result) ms) in
+    let h = leading-length stamp (c .before .floor .result) ms in
+    let m = many-length isReturn (leading stamp (c .before .floor .result) ms) in
     let g = c .leaving .ensures in
     let p = s .pre in
     (omega (arith, g .count), omega (arith, g .returns, p .returns, p .waits))
