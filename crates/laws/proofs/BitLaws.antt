@@ -9,7 +9,6 @@ use lib.Pow.{shl-exact, pow-mono}
 use lib.Count.{ones, ones-cat}
 use Rattle.laws.specs.Below.{sumTo, one?, countTo, bitsTo}
 use Rattle.laws.proofs.BelowLaws.{sumTo-cong, sumTo-zero}
-use Rattle.laws.proofs.ScanLaws.{sumTo-more}
 
 -- the code's `1 << r` in w bits, and room for the sum
 pub bit-is : (w r : ℕ) → r < w → (1 * 2 ^ r) % 2 ^ w ≡ 2 ^ r
@@ -41,9 +40,6 @@ module _ (f : ℕ → Bool) where
   unfolding ones sumTo
   ones-bits zero = refl
   ones-bits (suc n) = one-more n (f n) (bitsTo n f) (bits-lt n) ∙ ap (λ (y : ℕ). one? (f n) + y) (ones-bits n)
-
-  pub bits-more : (r : ℕ) (b : Bool) → f r ≡ b → bitsTo (r + 1) f ≡ cond b (2 ^ r) 0 + bitsTo r f
-  bits-more r b e = sumTo-more r (λ q. cond (f q) (2 ^ q) 0) ∙ ap (λ (x : Bool). cond x (2 ^ r) 0 + bitsTo r f) e
 
 -- sets by tests that agree, and the set of none
 pub bits-cong : (n : ℕ) (f g : ℕ → Bool) → ((i : ℕ) → i < n → f i ≡ g i) → bitsTo n f ≡ bitsTo n g

@@ -1,17 +1,16 @@
 -- Loops: what one turn over a list, or over the numbers below n, does to a definition. Assumes nothing.
 use mathlib.Core.Path.{_≡_, refl, ap, ap₂, _∙_, sym}
-use mathlib.Core.Logic.{_⊎_, inl, inr}
-use mathlib.Core.Bool.{Bool, true, false, cond, _&&_, and-false}
+use mathlib.Core.Logic.{inl, inr}
+use mathlib.Core.Bool.{Bool, true, false, cond, _&&_}
 use mathlib.Core.List.{List, [], _∷_}
-use Prim.Native.Nat.{ℕ, zero, suc, _+_, _≤_, _<_}
+use Prim.Native.Nat.{ℕ, zero, suc, _+_, _≤_, _<_, min}
 use native.Mathlib.Omega.{arith}
 use native.Mathlib.Numerals.{add-one}
-use native.Mathlib.Nat.{eq-or-lt-of-le, le-of-suc-le-suc}
-use lib.Dec.{T}
+use lib.Dec.{T, eqb}
 use lib.ListN.{length, getD, drop}
 use lib.Seq.{slice, slice-cons, slice-empty, drop-cons}
 use Rattle.laws.specs.Lists.{In, keep, many, all}
-use Rattle.laws.specs.Below.{allTo, sumTo}
+use Rattle.laws.specs.Below.{allTo, sumTo, leastTo}
 use Rattle.laws.proofs.Tests.{and-l, and-r}
 
 module _ {A : Type 0} where
@@ -29,27 +28,22 @@ module _ {A : Type 0} where
   pub over : (l : List A) (i n : ℕ) → i ≤ n → n ≤ i → slice i n l ≡ []
   over l i n h k = ap (λ (j : ℕ). slice j n l) (let e : i ≡ n = omega arith in e) ∙ slice-empty n l
 
--- a test that passes below n and at n passes below n + 1
-pub allTo-more : (n : ℕ) (f : ℕ → Bool) → allTo n f ≡ true → f n ≡ true → allTo (n + 1) f ≡ true
+-- a turn of a loop over the numbers below n, by what it holds after those below i: x before it, y after it
+module _ {A : Type 0} (holds : ℕ → A) (step : ℕ → A → A) (more : (i : ℕ) → holds (suc i) ≡ step i (holds i)) where
+  turn : (i : ℕ) {x y : A} → x ≡ holds i → y ≡ step i x → y ≡ holds (i + 1)
+  turn i e d = d ∙ ap (step i) e ∙ sym (more i) ∙ sym (ap holds (add-one i))
+
+pub allTo-turn : (f : ℕ → Bool) (i : ℕ) {x y : Bool} → x ≡ allTo i f → y ≡ (f i && x) → y ≡ allTo (i + 1) f
 unfolding allTo
-allTo-more n f h e = ap (λ (x : ℕ). allTo x f) (add-one n) ∙ rw (e, h)
+allTo-turn f = turn (λ n. allTo n f) (λ i x. f i && x) (λ i. refl)
 
-pub allTo-end : (i n : ℕ) (f : ℕ → Bool) → i ≤ n → n ≤ i → allTo i f ≡ true → true ≡ allTo n f
-allTo-end i n f h k e = sym e ∙ ap (λ (x : ℕ). allTo x f) (let d : i ≡ n = omega arith in d)
-
--- one that fails fails all
-pub allTo-fails : (n : ℕ) (f : ℕ → Bool) (i : ℕ) → i < n → f i ≡ false → allTo n f ≡ false
-unfolding allTo
-allTo-fails zero f i h e = absurd (omega arith)
-allTo-fails (suc n) f i h e = go (eq-or-lt-of-le (le-of-suc-le-suc h)) (λ l. allTo-fails n f i l e)
-  where
-    go : (i ≡ n) ⊎ (i < n) → (i < n → allTo n f ≡ false) → f n && allTo n f ≡ false
-    go (inl d) r = rw (← d, e)
-    go (inr l) r = rw (r l) (and-false (f n))
-
-pub sumTo-more : (n : ℕ) (f : ℕ → ℕ) → sumTo (n + 1) f ≡ f n + sumTo n f
+pub sumTo-turn : (f : ℕ → ℕ) (i : ℕ) {x y : ℕ} → x ≡ sumTo i f → y ≡ f i + x → y ≡ sumTo (i + 1) f
 unfolding sumTo
-sumTo-more n f = ap (λ (x : ℕ). sumTo x f) (add-one n)
+sumTo-turn f = turn (λ n. sumTo n f) (λ i x. f i + x) (λ i. refl)
+
+pub leastTo-turn : (but d : ℕ) (f : ℕ → ℕ) (i : ℕ) {x y : ℕ} → x ≡ leastTo i but d f → y ≡ cond (eqb i but) x (min (f i) x) → y ≡ leastTo (i + 1) but d f
+unfolding leastTo
+leastTo-turn but d f = turn (λ n. leastTo n but d f) (λ i x. cond (eqb i but) x (min (f i) x)) (λ i. refl)
 
 pub many-length : {A : Type 0} (f : A → Bool) (l : List A) → many f l ≤ length l
 unfolding keep

@@ -34,19 +34,19 @@ floor-settle p = refl
 
 -- ---- the calls
 
--- last counters of other posts that do not fall leave the floor as high, whatever waits
-pub floor-up : (p : Post) (clock : ℕ) (last : List ℕ) (ms : List Message) (phase order : ℕ)
-    → ((q : ℕ) → q < p .posts → (q ≡ p .own → ⊥) → lastOf p q ≤ getD last q 0) → floor p ≤ floor (settle (remade p clock last ms phase order))
-unfolding floor settle remade
-floor-up p clock last ms phase order h =
-    least-mono (p .posts) (p .own) (2 ^ 40) (λ q. stampOf (lastOf p q) q) (λ q. stampOf (getD last q 0) q) (λ q l d. let a = h q l d in omega arith)
+-- last counters of other posts that do not fall leave the floor as high
+pub floor-up : (p r : Post) → r .posts ≡ p .posts → r .own ≡ p .own → ((q : ℕ) → q < p .posts → (q ≡ p .own → ⊥) → lastOf p q ≤ lastOf r q)
+    → floor p ≤ floor (settle r)
+unfolding floor settle
+floor-up p r e d h =
+    rw (e, d) (least-mono (p .posts) (p .own) (2 ^ 40) (λ q. stampOf (lastOf p q) q) (λ q. stampOf (lastOf r q) q) (λ q l o. let a = h q l o in omega arith))
 
 -- whether it is refused or not
 said-floor : (p : Post) (kind phase : ℕ) (rows : List Row) (lent : List ℕ) → floor p ≤ floor (unless rows (stays p lent) (said p kind phase lent) .gives .post)
-unfolding spoken
+unfolding spoken remade
 said-floor p kind phase rows lent =
     unless-both (λ (o : Outcome). floor p ≤ floor (o .gives .post)) rows (stays p lent) _
-    (λ z. floor-up p _ _ _ _ _ (λ q l d. let e = getD-set-other (p .last) (p .own) q (p .clock + 1) 0 d in omega arith))
+    (λ z. floor-up p (spoken p kind phase) refl refl (λ q l d. let e = getD-set-other (p .last) (p .own) q (p .clock + 1) 0 d in omega arith))
     (λ n z. omega arith)
 
 pub took-floor : (p : Post) (lent : List ℕ) → floor p ≤ floor (took p lent .gives .post)
@@ -56,16 +56,16 @@ pub gaveBack-floor : (p : Post) (lent : List ℕ) → floor p ≤ floor (gaveBac
 gaveBack-floor p lent = said-floor p 2 0 (returnRows p (length lent)) lent
 
 pub received-floor : (p : Post) (s lent : List ℕ) → floor p ≤ floor (received p s lent .gives .post)
-unfolding heardFrom came noted
+unfolding heardFrom came noted remade
 received-floor p s lent =
     unless-both (λ (o : Outcome). floor p ≤ floor (o .gives .post)) (receiveRows p s (length lent)) (stays p lent) _
     (λ z. let m = fieldsOf s .message in
     let a = accepted p s (length lent) z .1 .new in
     let up : (q : ℕ) → lastOf p q ≤ getD (set (p .last) (m .sender) (m .counter)) q 0 = set-up (p .last) (m .sender) (m .counter) (omega arith) in
     cond-both (λ (o : Outcome). floor p ≤ floor (o .gives .post)) (counted m) _ _
-    (λ c. floor-up p _ _ _ _ _ (λ q l d.
+    (λ c. floor-up p (came p m) refl refl (λ q l d.
     let e = getD-set-other (set (p .last) (m .sender) (m .counter)) (p .own) q (ackClock p m) 0 d in
     let b = up q in
     omega arith))
-    (λ c. floor-up p _ _ _ _ _ (λ q l d. up q)))
+    (λ c. floor-up p (noted p m) refl refl (λ q l d. up q)))
     (λ n z. omega arith)

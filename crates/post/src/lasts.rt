@@ -3,11 +3,20 @@ use crate::Post;
 use crate::stamp;
 ghost use mathlib.Core.Path.{_≡_};
 ghost use mathlib.Core.Bool.{cond, not, _&&_, _||_};
-ghost use Prim.Native.Nat.{_≤_, _<_, _^_, min};
+ghost use Prim.Native.Nat.{_≤_, _<_, _+_, _^_, min};
 ghost use lib.Dec.{leb, ltb, eqb};
 ghost use lib.ListN.{getD};
 ghost use Rattle.laws.specs.Below.{allTo, sumTo, bitsTo, leastTo};
 ghost use Rattle.frame.specs.Message.{stampOf};
+
+fn both(a: bool, b: bool) -> bool
+    ensures { λ r. ⌜ r ≡ (a && b) ⌝ }
+{
+    if a {
+        return b;
+    }
+    false
+}
 
 // The most that a last counter can be is the clock, and 0 where there is no post.
 fn fits(posts: u8, clock: u32, q: usize, c: u32) -> bool
@@ -24,14 +33,13 @@ fn fits(posts: u8, clock: u32, q: usize, c: u32) -> bool
 pub(crate) fn fit(last: [u32; 16], posts: u8, clock: u32) -> bool
     ensures { λ r. ⌜ r ≡ allTo 16 (λ q. (ltb q posts || eqb (getD last q 0) 0) && leb (getD last q 0) clock) ⌝ }
 {
+    let mut good = true;
     let mut q = 0;
     while q < Post::POSTS {
-        if !fits(posts, clock, q, last[q]) {
-            return false;
-        }
+        good = both(fits(posts, clock, q, last[q]), good);
         q += 1;
     }
-    true
+    good
 }
 
 fn wide(x: u32) -> u64
@@ -94,15 +102,13 @@ pub(crate) fn few(counts: [u8; 16], posts: u8, own: u8) -> bool
     requires { ⌜ posts ≤ 16 ⌝ }
     ensures { λ r. ⌜ r ≡ allTo posts (λ q. eqb q own || leb (getD counts q 0) 4) ⌝ }
 {
+    let mut good = true;
     let mut q = 0u8;
     while q < posts {
-        let n = counts[q as usize];
-        if !is_few(own, q, n) {
-            return false;
-        }
+        good = both(is_few(own, q, counts[q as usize]), good);
         q += 1;
     }
-    true
+    good
 }
 
 fn is_late(own: usize, q: usize, c: u32, t: u64) -> bool
@@ -115,6 +121,17 @@ fn is_late(own: usize, q: usize, c: u32, t: u64) -> bool
     stamp(c, q as u8) < t
 }
 
+// The set with bit q too, or without.
+fn with_bit(set: u16, q: usize, on: bool) -> u16
+    requires { ⌜ (q < 16) × (set < 2 ^ q) ⌝ }
+    ensures { λ r. ⌜ r ≡ cond on (2 ^ q) 0 + set ⌝ }
+{
+    if on {
+        return set + (1u16 << q);
+    }
+    set
+}
+
 // The other posts whose last stamp is below t, bit q for post q.
 pub(crate) fn late(last: [u32; 16], posts: usize, own: usize, t: u64) -> u16
     requires { ⌜ posts ≤ 16 ⌝ }
@@ -123,9 +140,7 @@ pub(crate) fn late(last: [u32; 16], posts: usize, own: usize, t: u64) -> u16
     let mut set: u16 = 0;
     let mut q = 0;
     while q < posts {
-        if is_late(own, q, last[q], t) {
-            set += 1u16 << q;
-        }
+        set = with_bit(set, q, is_late(own, q, last[q], t));
         q += 1;
     }
     set

@@ -406,11 +406,11 @@ impl Post {
         if form != 0 {
             return form;
         }
+        let m = f.message;
+        let sender = self.sender_number(m);
         if f.feeder != self.feeder {
             return 6;
         }
-        let m = f.message;
-        let sender = self.sender_number(m);
         if sender != 0 {
             return sender;
         }

@@ -22,7 +22,7 @@ well c = ap not (sym (c .before .before .checked .ensures .holds)) ∙ c .if1 .l
 known : (c : tie.Else5) → let m = c .before .before .before .before .before .before .before .before .split .result .message in T (sound (c .before .before .before .before .before .before .before .before .before .before .before .before .before .before .args .self)) × (m .sender < c .before .before .before .before .before .before .before .before .before .before .before .before .before .before .args .self .posts) × (m .sender < 16)
 known c =
     let t = passes _ (sym (c .before .before .before .before .before .before .before .before .before .before .before .before .checked .ensures .holds) ∙ not-false _ (c .before .before .before .before .before .before .before .before .before .before .if1 .left)) in
-    let l = on-feeder _ _ _ (sym (c .before .sender-number .ensures) ∙ c .if5 .left) in
+    let l = on-feeder _ _ _ (sym (c .before .before .before .before .sender-number .ensures) ∙ c .if5 .left) in
     let h = sound-has _ t .posts-high in
     (t, l, omega arith)
 
@@ -38,10 +38,10 @@ returns-3 : tie.Need-returns-3
 returns-3 c = no-form _ _ _ _ (c .before .before .split .ensures) (well (c .before .before .before .before)) (c .before .before .before .if2 .left) (c .before .form-number .ensures) (c .if3 .taken)
 
 returns-4 : tie.Need-returns-4
-returns-4 c = elsewhere _ _ _ _ (c .before .before .before .before .before .split .ensures) (well (c .before .before .before .before .before .before .before)) (c .before .before .before .before .before .before .if2 .left) (c .before .before .before .before .form-number .ensures) (c .before .before .before .if3 .left) (c .if4 .taken)
+returns-4 c = elsewhere _ _ _ _ (c .before .before .before .before .before .before .before .split .ensures) (well (c .before .before .before .before .before .before .before .before .before)) (c .before .before .before .before .before .before .before .before .if2 .left) (c .before .before .before .before .before .before .form-number .ensures) (c .before .before .before .before .before .if3 .left) (c .if4 .taken)
 
 returns-5 : tie.Need-returns-5
-returns-5 c = no-sender _ _ _ _ (c .before .before .before .before .before .before .before .before .split .ensures) (well (c .before .before .before .before .before .before .before .before .before .before)) (c .before .before .before .before .before .before .before .before .before .if2 .left) (c .before .before .before .before .before .before .before .form-number .ensures) (c .before .before .before .before .before .before .if3 .left) (c .before .before .before .if4 .left) (c .before .sender-number .ensures) (c .if5 .taken)
+returns-5 c = no-sender _ _ _ _ (c .before .before .before .before .before .before .before .before .split .ensures) (well (c .before .before .before .before .before .before .before .before .before .before)) (c .before .before .before .before .before .before .before .before .before .if2 .left) (c .before .before .before .before .before .before .before .form-number .ensures) (c .before .before .before .before .before .before .if3 .left) (c .before .if4 .left) (c .before .before .before .before .sender-number .ensures) (c .if5 .taken)
 
 array-read-turn-number : tie.Need-array-read-turn-number
 array-read-turn-number c = known (c .before .before) .2
@@ -50,7 +50,7 @@ turn-number-requires : tie.Need-turn-number-requires
 turn-number-requires c κs = let k = known (c .before .before) in (k .0, k .1)
 
 returns-6 : tie.Need-returns-6
-returns-6 c = sent-by _ _ _ _ (c .before .before .before .before .before .before .before .before .before .before .before .split .ensures) (well (c .before .before .before .before .before .before .before .before .before .before .before .before .before)) (c .before .before .before .before .before .before .before .before .before .before .before .before .if2 .left) (c .before .before .before .before .before .before .before .before .before .before .form-number .ensures) (c .before .before .before .before .before .before .before .before .before .if3 .left) (c .before .before .before .before .before .before .if4 .left) (c .before .before .before .before .sender-number .ensures) (c .before .before .before .if5 .left) (c .before .before .before .before .before .before .before .before .before .before .before .before .before .before .before .checked .ensures .counts (not-false _ (c .before .before .before .before .before .before .before .before .before .before .before .before .before .if1 .left)) _ (known (c .before .before .before) .2)) (c .turn-number .ensures)
+returns-6 c = sent-by _ _ _ _ (c .before .before .before .before .before .before .before .before .before .before .before .split .ensures) (well (c .before .before .before .before .before .before .before .before .before .before .before .before .before)) (c .before .before .before .before .before .before .before .before .before .before .before .before .if2 .left) (c .before .before .before .before .before .before .before .before .before .before .form-number .ensures) (c .before .before .before .before .before .before .before .before .before .if3 .left) (c .before .before .before .before .if4 .left) (c .before .before .before .before .before .before .before .sender-number .ensures) (c .before .before .before .if5 .left) (c .before .before .before .before .before .before .before .before .before .before .before .before .before .before .before .checked .ensures .counts (not-false _ (c .before .before .before .before .before .before .before .before .before .before .before .before .before .if1 .left)) _ (known (c .before .before .before) .2)) (c .turn-number .ensures)
 
 pub receive-number-spec : {M : Type 1} → statement M
 receive-number-spec =
@@ -62,8 +62,8 @@ receive-number-spec =
     (λ c κs. search needs)
     (λ c κs. search needs)
     returns-3
-    returns-4
     (λ c κs. search needs)
+    returns-4
     returns-5
     (λ c. search needs)
     array-read-turn-number

@@ -1,14 +1,13 @@
 use borrow.Author.Needs.{needs}
 use Prim.Native.Nat.{ℕ, _≤_, _-_}
-use mathlib.Core.Path.{_≡_, refl, _∙_, sym}
-use mathlib.Core.Bool.{Bool, true, _||_}
+use mathlib.Core.Path.{_≡_, refl, ap, _∙_}
+use mathlib.Core.Bool.{Bool, _&&_, _||_}
 use mathlib.Core.List.{List}
 use lib.Dec.{leb, eqb}
 use lib.ListN.{getD}
 use native.Mathlib.Omega.{arith}
-use borrow.Author.Tests.{not-true, not-false}
 use Rattle.laws.specs.Below.{allTo}
-use Rattle.laws.proofs.ScanLaws.{allTo-more, allTo-end, allTo-fails}
+use Rattle.laws.proofs.ScanLaws.{allTo-turn}
 use Rattle.post.proofs.lasts.few.Statement.{statement}
 use Rattle.post.proofs.lasts.few.Tie as tie
 
@@ -17,23 +16,23 @@ abbrev fewAt : ℕ → List ℕ → ℕ → Bool
 fewAt own counts q = eqb q own || leb (getD counts q 0) 4
 
 abbrev Inv-loop : tie.InvT-loop
-Inv-loop posts own counts q₀ q = (q ≤ posts) × (allTo q (fewAt own counts) ≡ true)
+Inv-loop posts own counts good₀ q₀ good q = (q ≤ posts) × (good ≡ allTo q (fewAt own counts))
 
 abbrev μ-loop : tie.MeasureT-loop
-μ-loop posts own counts q₀ q = posts - q
+μ-loop posts own counts good₀ q₀ good q = posts - q
 
 loop-holds : tie.Need-loop-holds Inv-loop μ-loop
 unfolding allTo
 loop-holds c = (omega arith, refl)
 
-returns : tie.Need-returns Inv-loop μ-loop
-returns c = sym (allTo-fails _ _ _ (omega arith) (sym (c .before .is-few .ensures) ∙ not-true _ (c .if1 .taken)))
-
 loop-again : tie.Need-loop-again Inv-loop μ-loop
-loop-again c = (omega arith, allTo-more _ _ (c .before .before .before .loop .inv .1) (sym (c .before .is-few .ensures) ∙ not-false _ (c .if1 .left)))
+loop-again c =
+    let l = c .before .before .before .loop in
+    let a = c .before .before .before .before .args in
+    (omega arith, allTo-turn (fewAt (a .own) (a .t1)) (l .q) (l .inv .1) (c .both .ensures ∙ ap (λ (b : Bool). b && l .good) (c .before .is-few .ensures)))
 
-returns-2 : tie.Need-returns-2 Inv-loop μ-loop
-returns-2 c = allTo-end _ _ _ (omega arith) (omega arith) (c .before .loop .inv .1)
+returns : tie.Need-returns Inv-loop μ-loop
+returns c = let e : c .before .loop .q ≡ c .before .before .args .posts = omega arith in rw e at (c .before .loop .inv .1)
 
 pub few-spec : {M : Type 1} → statement M
 few-spec =
@@ -45,8 +44,8 @@ few-spec =
     (λ c. search needs)
     (λ c. search needs)
     (λ c κs. search needs)
-    returns
+    (λ c κs. search needs)
     (λ c. search needs)
     (λ c. search needs)
     loop-again
-    returns-2)
+    returns)

@@ -1,14 +1,13 @@
 use borrow.Author.Needs.{needs}
 use Prim.Native.Nat.{ℕ, _≤_, _-_}
-use mathlib.Core.Path.{_≡_, refl, _∙_, sym}
-use mathlib.Core.Bool.{Bool, true, _&&_, _||_}
+use mathlib.Core.Path.{_≡_, refl, ap, _∙_}
+use mathlib.Core.Bool.{Bool, _&&_, _||_}
 use mathlib.Core.List.{List}
 use lib.Dec.{leb, ltb, eqb}
 use lib.ListN.{getD}
 use native.Mathlib.Omega.{arith}
-use borrow.Author.Tests.{not-true, not-false}
 use Rattle.laws.specs.Below.{allTo}
-use Rattle.laws.proofs.ScanLaws.{allTo-more, allTo-end, allTo-fails}
+use Rattle.laws.proofs.ScanLaws.{allTo-turn}
 use Rattle.post.proofs.lasts.fit.Statement.{statement}
 use Rattle.post.proofs.lasts.fit.Tie as tie
 
@@ -17,23 +16,23 @@ abbrev fitsAt : ℕ → ℕ → List ℕ → ℕ → Bool
 fitsAt posts clock last q = (ltb q posts || eqb (getD last q 0) 0) && leb (getD last q 0) clock
 
 abbrev Inv-loop : tie.InvT-loop
-Inv-loop posts clock last q₀ q = (q ≤ 16) × (allTo q (fitsAt posts clock last) ≡ true)
+Inv-loop posts clock last good₀ q₀ good q = (q ≤ 16) × (good ≡ allTo q (fitsAt posts clock last))
 
 abbrev μ-loop : tie.MeasureT-loop
-μ-loop posts clock last q₀ q = 16 - q
+μ-loop posts clock last good₀ q₀ good q = 16 - q
 
 loop-holds : tie.Need-loop-holds Inv-loop μ-loop
 unfolding allTo
 loop-holds c = (omega arith, refl)
 
-returns : tie.Need-returns Inv-loop μ-loop
-returns c = sym (allTo-fails 16 _ _ (omega arith) (sym (c .before .fits2 .ensures) ∙ not-true _ (c .if1 .taken)))
-
 loop-again : tie.Need-loop-again Inv-loop μ-loop
-loop-again c = (omega arith, allTo-more _ _ (c .before .before .before .loop .inv .1) (sym (c .before .fits2 .ensures) ∙ not-false _ (c .if1 .left)))
+loop-again c =
+    let l = c .before .before .before .loop in
+    let a = c .before .before .before .before .args in
+    (omega arith, allTo-turn (fitsAt (a .posts) (a .clock) (a .t1)) (l .q) (l .inv .1) (c .both .ensures ∙ ap (λ (b : Bool). b && l .good) (c .before .fits2 .ensures)))
 
-returns-2 : tie.Need-returns-2 Inv-loop μ-loop
-returns-2 c = allTo-end _ 16 _ (omega arith) (omega arith) (c .before .loop .inv .1)
+returns : tie.Need-returns Inv-loop μ-loop
+returns c = let e : c .before .loop .q ≡ 16 = omega arith in rw e at (c .before .loop .inv .1)
 
 pub fit-spec : {M : Type 1} → statement M
 fit-spec =
@@ -45,8 +44,8 @@ fit-spec =
     (λ c. search needs)
     (λ c. search needs)
     (λ c κs. search needs)
-    returns
+    (λ c κs. search needs)
     (λ c. search needs)
     (λ c. search needs)
     loop-again
-    returns-2)
+    returns)

@@ -1,14 +1,14 @@
 use borrow.Author.Needs.{needs}
-use Prim.Native.Nat.{ℕ, _≤_, _<_, _-_, _^_}
-use mathlib.Core.Path.{_≡_, refl, _∙_, sym}
-use mathlib.Core.Logic.{⊎-elim}
-use mathlib.Core.Bool.{Bool, true, false, not, _&&_}
+use Prim.Native.Nat.{ℕ, _+_, _≤_, _-_, _^_}
+use mathlib.Core.Path.{_≡_, refl, ap, _∙_}
+use mathlib.Core.Bool.{Bool, cond, not, _&&_}
 use mathlib.Core.List.{List}
 use native.Mathlib.Omega.{arith}
 use lib.Dec.{ltb, eqb}
 use lib.ListN.{getD}
 use Rattle.laws.specs.Below.{sumTo, bitsTo}
-use Rattle.laws.proofs.BitLaws.{bit-is, bit-room, bits-lt, bits-more}
+use Rattle.laws.proofs.BitLaws.{bits-lt}
+use Rattle.laws.proofs.ScanLaws.{sumTo-turn}
 use Rattle.frame.specs.Message.{stampOf}
 use Rattle.post.proofs.lasts.late.Statement.{statement}
 use Rattle.post.proofs.lasts.late.Tie as tie
@@ -27,27 +27,17 @@ loop-holds : tie.Need-loop-holds Inv-loop μ-loop
 unfolding sumTo
 loop-holds c = (omega arith, refl)
 
-add-set : tie.Need-add-set Inv-loop μ-loop
-add-set c =
-    let b = c .before .before .before in
-    let q : ℕ = b .loop .q in
-    let a = b .before .args in
-    let l : b .loop .set < 2 ^ q = rw (b .loop .inv .1) (bits-lt (lateAt (a .own) (a .t1) (a .t)) q) in
-    rw (bit-is 16 q (omega arith)) (record { fits = bit-room 16 q (b .loop .set) (omega arith) l })
+with-bit-requires : tie.Need-with-bit-requires Inv-loop μ-loop
+with-bit-requires c κs =
+    let l = c .before .before .loop in
+    let a = c .before .before .before .args in
+    (omega arith, rw (l .inv .1) (bits-lt (lateAt (a .own) (a .t1) (a .t)) (l .q)))
 
 loop-again : tie.Need-loop-again Inv-loop μ-loop
 loop-again c =
-    let b = c .before .before .before in
-    let q : ℕ = b .loop .q in
-    let a = b .before .args in
-    let more = bits-more (lateAt (a .own) (a .t1) (a .t)) q in
-    let e = bit-is 16 q (omega arith) in
-    let v = b .loop .inv .1 in
-    let k = c .before .is-late .ensures in
-    ⊎-elim
-    (λ w. (omega arith, omega (arith, more true (sym k ∙ w .0 .taken))))
-    (λ w. (omega arith, omega (arith, more false (sym k ∙ w .0 .left))))
-    (c .if1 .came)
+    let l = c .before .before .before .loop in
+    let a = c .before .before .before .before .args in
+    (omega arith, sumTo-turn (λ x. cond (lateAt (a .own) (a .t1) (a .t) x) (2 ^ x) 0) (l .q) (l .inv .1) (c .with-bit .ensures ∙ ap (λ (b : Bool). cond b (2 ^ l .q) 0 + l .set) (c .before .is-late .ensures)))
 
 returns : tie.Need-returns Inv-loop μ-loop
 returns c = let e : c .before .loop .q ≡ c .before .before .args .posts = omega arith in rw e at (c .before .loop .inv .1)
@@ -62,9 +52,7 @@ late-spec =
     (λ c. search needs)
     (λ c. search needs)
     (λ c κs. search needs)
-    (λ c. search needs)
-    (λ c. search needs)
-    add-set
+    with-bit-requires
     (λ c. search needs)
     (λ c. search needs)
     loop-again

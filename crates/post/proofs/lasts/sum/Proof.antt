@@ -4,7 +4,7 @@ use mathlib.Core.Path.{_≡_, refl}
 use lib.ListN.{getD}
 use native.Mathlib.Omega.{arith}
 use Rattle.laws.specs.Below.{sumTo}
-use Rattle.laws.proofs.ScanLaws.{sumTo-more}
+use Rattle.laws.proofs.ScanLaws.{sumTo-turn}
 use Rattle.post.proofs.lasts.sum.Statement.{statement}
 use Rattle.post.proofs.lasts.sum.Tie as tie
 
@@ -22,9 +22,7 @@ loop-again : tie.Need-loop-again Inv-loop μ-loop
 loop-again c =
     let l = c .before .before .loop in
     let w = c .wide .ensures in
-    let e = l .inv .1 in
-    let m = sumTo-more (l .q) (λ x. getD (c .before .before .before .args .t1) x 0) in
-    (omega arith, omega arith, omega arith)
+    (omega arith, sumTo-turn (λ x. getD (c .before .before .before .args .t1) x 0) (l .q) (l .inv .1) (omega arith), omega arith)
 
 returns : tie.Need-returns Inv-loop μ-loop
 returns c = let e : c .before .loop .q ≡ 16 = omega arith in (rw e at (c .before .loop .inv .1), let h = c .before .loop .inv .2 in omega arith)
