@@ -1,5 +1,5 @@
 -- Loops: what one turn over a list, or over the numbers below n, does to a definition. Assumes nothing.
-use mathlib.Core.Path.{_≡_, refl, ap, ap₂, _∙_, sym}
+use mathlib.Core.Path.{_≡_, refl, ap, ap₂, _∙_, sym, subst}
 use mathlib.Core.Logic.{inl, inr}
 use mathlib.Core.Bool.{Bool, true, false, cond, _&&_}
 use mathlib.Core.List.{List, [], _∷_}
@@ -7,8 +7,8 @@ use Prim.Native.Nat.{ℕ, zero, suc, _+_, _≤_, _<_, min}
 use native.Mathlib.Omega.{arith}
 use native.Mathlib.Numerals.{add-one}
 use lib.Dec.{T, eqb}
-use lib.ListN.{length, getD, drop}
-use lib.Seq.{slice, slice-cons, slice-empty, drop-cons}
+use lib.ListN.{length, getD, take, drop}
+use lib.Seq.{slice, slice-empty, drop-cons, length-take-le, getD-take}
 use Rattle.laws.specs.Lists.{In, keep, many, all}
 use Rattle.laws.specs.Below.{allTo, sumTo, leastTo}
 use Rattle.laws.proofs.Tests.{and-l, and-r}
@@ -21,12 +21,21 @@ module _ {A : Type 0} where
   all-at f (x ∷ xs) t a (inr i) = all-at f xs (and-r (f x) (all f xs) t) a i
   all-at f [] t a i = absurd i
 
-  -- the rest of the first n from i on: one and those after it, as the code counts; and nothing at the end
-  pub next : (l : List A) (i n : ℕ) (d : A) → i < n → n ≤ length l → slice i n l ≡ getD l i d ∷ slice (i + 1) n l
-  next l i n d h k = slice-cons i n l d h k ∙ ap (λ (j : ℕ). getD l i d ∷ slice j n l) (sym (add-one i))
+  -- from i on: one and those after it, as the code counts
+  pub next-drop : (l : List A) (i : ℕ) (d : A) → i < length l → drop i l ≡ getD l i d ∷ drop (i + 1) l
+  next-drop l i d h = drop-cons l i d h ∙ ap (λ (j : ℕ). getD l i d ∷ drop j l) (sym (add-one i))
 
-  pub over : (l : List A) (i n : ℕ) → i ≤ n → n ≤ i → slice i n l ≡ []
-  over l i n h k = ap (λ (j : ℕ). slice j n l) (let e : i ≡ n = omega arith in e) ∙ slice-empty n l
+  -- the same of the first n
+  pub next : (l : List A) (i n : ℕ) (d : A) → i < n → n ≤ length l → slice i n l ≡ getD l i d ∷ slice (i + 1) n l
+  next l i n d h k = next-drop (take n l) i d (let e = length-take-le n l k in omega arith) ∙ ap (λ (a : A). a ∷ slice (i + 1) n l) (getD-take n l i d h)
+
+-- a scan over the first n of a list, by what it says of those that are left: one and those after it, and at the end none
+module _ {A : Type 0} (says : List A → Type 0) (l : List A) (i n : ℕ) where
+  pub one-left : (d : A) → i < n → n ≤ length l → says (slice i n l) → says (getD l i d ∷ slice (i + 1) n l)
+  one-left d h k = subst says (next l i n d h k)
+
+  pub none-left : i ≤ n → n ≤ i → says (slice i n l) → says []
+  none-left h k = subst says (ap (λ (j : ℕ). slice j n l) (let e : i ≡ n = omega arith in e) ∙ slice-empty n l)
 
 -- a turn of a loop over the numbers below n, by what it holds after those below i: x before it, y after it
 module _ {A : Type 0} (holds : ℕ → A) (step : ℕ → A → A) (more : (i : ℕ) → holds (suc i) ≡ step i (holds i)) where
@@ -53,10 +62,6 @@ many-length f (x ∷ xs) = go (f x) (many-length f xs)
     go : (b : Bool) → many f xs ≤ length xs → length (cond b (x ∷ keep f xs) (keep f xs)) ≤ suc (length xs)
     go true h = omega arith
     go false h = omega arith
-
--- from i on: one and those after it, as the code counts
-pub next-drop : {A : Type 0} (l : List A) (i : ℕ) (d : A) → i < length l → drop i l ≡ getD l i d ∷ drop (i + 1) l
-next-drop l i d h = drop-cons l i d h ∙ ap (λ (j : ℕ). getD l i d ∷ drop j l) (sym (add-one i))
 
 -- two tests of each number are one test of each
 pub allTo-both : (n : ℕ) (f g : ℕ → Bool) → allTo n (λ i. f i && g i) ≡ allTo n f && allTo n g

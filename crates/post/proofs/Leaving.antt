@@ -1,5 +1,5 @@
 -- One turn of the loop over the messages that leave. Assumes nothing.
-use mathlib.Core.Path.{_≡_, refl, ap, _∙_, sym, subst}
+use mathlib.Core.Path.{_≡_, refl, ap, _∙_, sym}
 use mathlib.Core.Bool.{Bool, true, false, cond, _&&_}
 use mathlib.Core.List.{List, [], _∷_}
 use Prim.Native.Nat.{ℕ, _+_, _≤_, _<_, _^_}
@@ -7,15 +7,14 @@ use native.Mathlib.Omega.{arith}
 use native.Mathlib.Nat.{zero-add, add-zero}
 use borrow.Author.Tests.{lt-ltb, le-ltb, eqb-true, ne-eqb}
 use lib.Dec.{eqb}
-use lib.ListN.{length, getD}
-use lib.Seq.{slice}
+use lib.ListN.{length}
 use Rattle.laws.specs.Lists.{keep, many, leading}
 use Rattle.laws.specs.Below.{one?}
 use Rattle.laws.proofs.ListLaws.{many-cons}
-use Rattle.laws.proofs.ScanLaws.{next, over, many-length}
+use Rattle.laws.proofs.ScanLaws.{many-length}
 use Rattle.laws.proofs.LeadingLaws.{leading-length}
 use Rattle.frame.specs.declared.Message.{Message}
-use Rattle.frame.specs.Message.{blank, isTake, isReturn, stamp, by}
+use Rattle.frame.specs.Message.{isTake, isReturn, stamp, by}
 use Rattle.post.specs.Settle.{ownNumber}
 use Rattle.post.specs.Inside.{Left}
 
@@ -87,14 +86,6 @@ module _ (own before f : ℕ) (ms : List Message) where
         go false true false e R = rw e
         go false false true e R = rw e
         go false false false e R = rw e
-
-  -- the next message of the first n
-  pub step : (l : List Message) (k n : ℕ) {i tk rt o : ℕ} → k < n → n ≤ length l
-      → Leaves (slice k n l) i tk rt o → Leaves (getD l k blank ∷ slice (k + 1) n l) i tk rt o
-  step l k n {i} {tk} {rt} {o} h e g = subst (λ (r : List Message). Leaves r i tk rt o) (next l k n blank h e) g
-
-  pub last-step : (l : List Message) (k n : ℕ) {i tk rt o : ℕ} → k ≤ n → n ≤ k → Leaves (slice k n l) i tk rt o → Leaves [] i tk rt o
-  last-step l k n {i} {tk} {rt} {o} h e g = subst (λ (r : List Message). Leaves r i tk rt o) (over l k n h e) g
 
   -- no count overruns
   pub small : {rest : List Message} {i tk rt o : ℕ} → before < 2 ^ 62 → length ms ≤ 62 → Leaves rest i tk rt o → (tk < 2 ^ 63) × (rt < 2 ^ 63)

@@ -8,13 +8,13 @@ use native.Mathlib.Nat.{zero-add}
 use borrow.Author.Tests.{lt-ltb, le-ltb}
 use lib.Dec.{leb, eqb, eqb→eq}
 use lib.ListN.{length, getD, drop, set, replicate, length-set, getD-replicate, drop-of-length-le}
-use lib.Seq.{slice, getD-set-same, getD-set-other}
+use lib.Seq.{getD-set-same, getD-set-other}
 use Rattle.laws.specs.Lists.{keep, all, many, rises}
 use Rattle.laws.specs.Below.{one?}
 use Rattle.laws.proofs.Tests.{test, neqb→ne}
 use Rattle.laws.proofs.BelowLaws.{one-yes, one-eqb}
 use Rattle.laws.proofs.ListLaws.{many-cons}
-use Rattle.laws.proofs.ScanLaws.{next, next-drop, over, many-length}
+use Rattle.laws.proofs.ScanLaws.{next-drop, many-length}
 use Rattle.frame.specs.declared.Message.{Message}
 use Rattle.frame.specs.Message.{blank, counted, isTake, isReturn, stamp, by}
 use Rattle.post.specs.declared.slots.Seen.{Seen}
@@ -118,15 +118,6 @@ module _ (posts own : ℕ) (last : List ℕ) (t : ℕ) (ms : List Message) where
 
     pub used : (seen : Seen) → seen .orderly ≡ false → all isBlank unused ≡ false → Looked posts own last t ms unused seen
     used seen n e = unlooked seen n (sym (rw e (and-false (all (fair posts last) ms && rises stamp t ms))))
-
-  -- the next message of the first n
-  pub step : (l : List Message) (i n : ℕ) {top : ℕ} {counts : List ℕ} {tk rt e : ℕ} → i < n → n ≤ length l
-      → Going (slice i n l) top counts tk rt e → Going (getD l i blank ∷ slice (i + 1) n l) top counts tk rt e
-  step l i n {top} {counts} {tk} {rt} {e} h k g = subst (λ (r : List Message). Going r top counts tk rt e) (next l i n blank h k) g
-
-  pub last-step : (l : List Message) (i n : ℕ) {top : ℕ} {counts : List ℕ} {tk rt e : ℕ} → i ≤ n → n ≤ i
-      → Going (slice i n l) top counts tk rt e → Going [] top counts tk rt e
-  last-step l i n {top} {counts} {tk} {rt} {e} h k g = subst (λ (r : List Message). Going r top counts tk rt e) (over l i n h k) g
 
 module _ (l : List Message) (i : ℕ) (h : i < length l) where
   pub full-slot : isBlank (getD l i blank) ≡ false → all isBlank (drop i l) ≡ false

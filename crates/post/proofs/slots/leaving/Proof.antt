@@ -6,8 +6,9 @@ use mathlib.Core.List.{_∷_}
 use native.Mathlib.Omega.{arith}
 use lib.ListN.{length, getD, take}
 use lib.Seq.{slice, length-take-le}
+use Rattle.laws.proofs.ScanLaws.{one-left, none-left}
 use Rattle.frame.specs.Message.{blank}
-use Rattle.post.proofs.Leaving.{Leaves, begun, ended, stopped, turned, step, last-step, small}
+use Rattle.post.proofs.Leaving.{Leaves, begun, ended, stopped, turned, small}
 use Rattle.post.proofs.slots.leaving.Statement.{statement}
 use Rattle.post.proofs.slots.leaving.Tie as tie
 
@@ -29,8 +30,9 @@ leaves : (b : tie.In-loop Inv-loop μ-loop)
     Leaves (a .own) (a .takes) (a .floor) (take (a .n) (a .t1)) (getD (a .t1) (k .i) blank ∷ slice (k .i + 1) (a .n) (a .t1)) (k .i) (k .tk) (k .rt) (k .order)
 leaves b =
     let a = b .before .before .args in
+    let k = b .before .loop in
     let l = long (b .before .before) in
-    step _ _ _ _ (a .t1) (b .before .loop .i) (a .n) (omega arith) (omega arith) (b .before .loop .inv .1)
+    one-left (λ r. Leaves (a .own) (a .takes) (a .floor) (take (a .n) (a .t1)) r (k .i) (k .tk) (k .rt) (k .order)) (a .t1) (k .i) (a .n) blank (omega arith) (omega arith) (k .inv .1)
 
 loop-holds : tie.Need-loop-holds Inv-loop μ-loop
 loop-holds c = (omega arith, begun _ _ _ _)
@@ -52,8 +54,9 @@ loop-again c = (omega arith, turned _ _ _ _ (leaves (c .before .before .before .
 
 returns-2 : tie.Need-returns-2 Inv-loop μ-loop
 returns-2 c =
-    let b = c .before in
-    ended _ _ _ _ (last-step _ _ _ _ (b .before .args .t1) (b .loop .i) (b .before .args .n) (omega arith) (omega arith) (b .loop .inv .1))
+    let a = c .before .before .args in
+    let k = c .before .loop in
+    ended _ _ _ _ (none-left (λ r. Leaves (a .own) (a .takes) (a .floor) (take (a .n) (a .t1)) r (k .i) (k .tk) (k .rt) (k .order)) (a .t1) (k .i) (a .n) (omega arith) (omega arith) (k .inv .1))
 
 pub leaving-spec : {M : Type 1} → statement M
 leaving-spec =

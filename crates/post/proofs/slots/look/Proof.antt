@@ -9,9 +9,10 @@ use borrow.Author.Tests.{not-true, not-false, eq-eqb, ne-eqb}
 use lib.ListN.{length, getD, take, drop}
 use lib.Seq.{slice, length-take-le}
 use Rattle.laws.specs.Lists.{all}
+use Rattle.laws.proofs.ScanLaws.{one-left, none-left}
 use Rattle.frame.specs.Message.{blank}
 use Rattle.post.specs.Sound.{isBlank}
-use Rattle.post.proofs.Looking.{Going, begun, foreign, unfit, low, takes-small, returns-small, each-small, turned, looked, wrong, used, step, last-step, full-slot, blank-slot, no-slot}
+use Rattle.post.proofs.Looking.{Going, begun, foreign, unfit, low, takes-small, returns-small, each-small, turned, looked, wrong, used, full-slot, blank-slot, no-slot}
 use Rattle.post.proofs.slots.look.Statement.{statement}
 use Rattle.post.proofs.slots.look.Tie as tie
 
@@ -39,8 +40,9 @@ going : (b : tie.In-loop Inv-loop μ-loop Inv-loop2 μ-loop2)
     Going (a .posts) (a .own) (a .t3) (a .floor) (take (a .n) (a .t1)) (getD (a .t1) (k .i) blank ∷ slice (k .i + 1) (a .n) (a .t1)) (k .top) (k .counts) (k .takes) (k .returns) (k .end)
 going b =
     let a = b .before .before .args in
+    let k = b .before .loop in
     let l = long (b .before .before) in
-    step _ _ _ _ _ (a .t1) (b .before .loop .i) (a .n) (omega arith) (omega arith) (b .before .loop .inv .1)
+    one-left (λ r. Going (a .posts) (a .own) (a .t3) (a .floor) (take (a .n) (a .t1)) r (k .top) (k .counts) (k .takes) (k .returns) (k .end)) (a .t1) (k .i) (a .n) blank (omega arith) (omega arith) (k .inv .1)
 
 loop-holds : tie.Need-loop-holds Inv-loop μ-loop Inv-loop2 μ-loop2
 loop-holds c = (omega arith, begun _ _ _ _ _)
@@ -93,9 +95,10 @@ loop2-again c =
 returns-5 : tie.Need-returns-5 Inv-loop μ-loop Inv-loop2 μ-loop2
 returns-5 c =
     let d = c .before in
-    let b = d .before .before in
-    let l = long (b .before) in
-    looked _ _ _ _ _ (last-step _ _ _ _ _ (b .before .args .t1) (b .loop .i) (b .before .args .n) (omega arith) (omega arith) (b .loop .inv .1))
+    let k = d .before .before .loop in
+    let a = d .before .before .before .args in
+    let l = long (d .before .before .before) in
+    looked _ _ _ _ _ (none-left (λ r. Going (a .posts) (a .own) (a .t3) (a .floor) (take (a .n) (a .t1)) r (k .top) (k .counts) (k .takes) (k .returns) (k .end)) (a .t1) (k .i) (a .n) (omega arith) (omega arith) (k .inv .1))
     (sym (d .loop2 .inv .1) ∙ no-slot _ (d .loop2 .i) (omega arith))
 
 pub look-spec : {M : Type 1} → statement M
