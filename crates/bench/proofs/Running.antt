@@ -8,6 +8,7 @@ use borrow.Author.Tests.{le-ltb, lt-leb}
 use lib.Dec.{T, ltb, eqb, eqb→eq}
 use lib.ListN.{length, take, drop, length-append}
 use lib.Seq.{sets, length-sets}
+use Rattle.laws.proofs.Tests.{or-off}
 use Rattle.laws.proofs.StoreLaws.{take-sets}
 use Rattle.bench.specs.declared.Bench.{Bench}
 use Rattle.bench.specs.declared.Fed.{Fed}
@@ -24,10 +25,6 @@ use Rattle.bench.proofs.Feeding.{roomy}
 unfoldable pub runs : Bench → List ℕ → List ℕ
 runs b [] = ending b
 runs b (x ∷ xs) = cond (isOver b) [] (stepped b x .text ++ runs (stepped b x .bench) xs)
-
-one-off : (s t : Bool) → s || t ≡ false → s ≡ false
-one-off true t e = e
-one-off false t e = refl
 
 pub runs-step : (b : Bench) (x : ℕ) (xs : List ℕ) → isOver b ≡ false → runs b (x ∷ xs) ≡ stepped b x .text ++ runs (stepped b x .bench) xs
 unfolding runs
@@ -171,7 +168,7 @@ fed-runs b (x ∷ xs) rest used at out h =
         ∙ r (omega arith)
         ∙ ap (λ (l : List ℕ). l ++ runs (stepped b x .bench) (xs ++ rest)) (take-sets out at text (omega arith))
         ∙ append-assoc (take at out) text (runs (stepped b x .bench) (xs ++ rest))
-        ∙ ap (λ (l : List ℕ). take at out ++ l) (sym (runs-step b x (xs ++ rest) (one-off (isOver b) (ltb (length out - at) 64) e)))
+        ∙ ap (λ (l : List ℕ). take at out ++ l) (sym (runs-step b x (xs ++ rest) (or-off (isOver b) (ltb (length out - at) 64) e .0)))
 
 -- ---- finishing
 

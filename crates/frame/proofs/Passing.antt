@@ -1,21 +1,18 @@
 -- What a call that no row of its table refuses was given. Assumes nothing.
-use mathlib.Core.Path.{_≡_, refl}
-use mathlib.Core.Bool.{Bool, true, false, _&&_, _||_, true≢false}
+use mathlib.Core.Path.{_≡_}
+use mathlib.Core.Bool.{Bool, true, false, _&&_}
 use mathlib.Core.List.{List}
 use Prim.Native.Nat.{ℕ, _≤_, _<_}
 use borrow.Author.Tests.{eqb-true, eqb-false, leb-false, ltb-false, not-false}
 use denote.Floats.{passes}
 use lib.Dec.{T, leb, eqb}
 use Rattle.laws.specs.Ladder.{refusal}
+use Rattle.laws.proofs.Tests.{or-off}
 use Rattle.laws.proofs.Ladders.{quiet}
 use Rattle.frame.specs.declared.Message.{Message}
 use Rattle.frame.specs.Message.{counted, known, lastCounter}
 use Rattle.frame.specs.Frame.{fieldsOf, formRows}
 use Rattle.frame.specs.Table.{takeTests, returnTests, senderTests, turnTests, receiveTests}
-
-or-off : (a b : Bool) → a || b ≡ false → (a ≡ false) × (b ≡ false)
-or-off true b e = absurd (true≢false e)
-or-off false b e = (refl, e)
 
 and-off : (a b : Bool) → a && b ≡ false → T a → b ≡ false
 and-off true b e t = e

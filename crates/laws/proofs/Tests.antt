@@ -1,7 +1,7 @@
 -- Tests: a case split that keeps what the test came to, and what `&&`, `||` and `not` say. Assumes nothing.
 use mathlib.Core.Path.{_≡_, refl}
 use mathlib.Core.Logic.{_⊎_, inl, inr}
-use mathlib.Core.Bool.{Bool, true, false, not, cond, _&&_, _||_}
+use mathlib.Core.Bool.{Bool, true, false, not, cond, _&&_, _||_, true≢false}
 use Prim.Native.Nat.{ℕ, _≤_, _<_}
 use lib.Dec.{T, leb, eqb, T-not, leb→le, nleb→lt, eqb-refl}
 
@@ -33,6 +33,10 @@ or-e false b t = inr t
 pub or-r : (a b : Bool) → T b → T (a || b)
 or-r true b t = tt
 or-r false b t = t
+
+pub or-off : (a b : Bool) → a || b ≡ false → (a ≡ false) × (b ≡ false)
+or-off true b e = absurd (true≢false e)
+or-off false b e = (refl, e)
 
 -- two tests, each of which passes where the other does
 pub same-test : (a b : Bool) → (T a → T b) → (T b → T a) → a ≡ b

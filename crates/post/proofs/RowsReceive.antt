@@ -1,12 +1,13 @@
 -- The rows of receive, as the code goes through them. Assumes nothing.
 use mathlib.Core.Path.{_≡_, refl, ap, _∙_, sym}
-use mathlib.Core.Bool.{Bool, true, false, not, _||_, true≢false}
+use mathlib.Core.Bool.{false, not}
 use mathlib.Core.List.{List, _∷_, _++_}
 use Prim.Native.Nat.{ℕ, _≤_, _<_}
 use borrow.Author.Tests.{le-ltb, eq-eqb, ne-eqb, leb-false}
 use lib.Dec.{ltb, eqb}
 use lib.ListN.{length}
 use Rattle.laws.specs.Ladder.{Row, _when_, refusal}
+use Rattle.laws.proofs.Tests.{or-off}
 use Rattle.laws.proofs.Ladders.{on, off, not-on, not-off, quiet, first-refuses, first-passes}
 use Rattle.frame.specs.declared.Fields.{Fields}
 use Rattle.frame.specs.declared.Message.{Message}
@@ -64,8 +65,4 @@ module _ (p : Post) (s : List ℕ) (n : ℕ) (f : Fields) (e : f ≡ fieldsOf s)
 -- a sender that the rows let pass is on the feeder
 pub on-feeder : (posts own : ℕ) (m : Message) → refusal (senderTests posts own m) ≡ 0 → m .sender < posts
 unfolding senderTests
-on-feeder posts own m e = leb-false posts (m .sender) (second (eqb (m .sender) own) _ (quiet (senderTests posts own m) tt e .1 .0))
-  where
-    second : (a b : Bool) → a || b ≡ false → b ≡ false
-    second true b q = absurd (true≢false q)
-    second false b q = q
+on-feeder posts own m e = leb-false posts (m .sender) (or-off (eqb (m .sender) own) _ (quiet (senderTests posts own m) tt e .1 .0) .1)
