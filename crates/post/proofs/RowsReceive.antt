@@ -1,14 +1,14 @@
 -- The rows of receive, as the code goes through them. Assumes nothing.
 use mathlib.Core.Path.{_≡_, refl, ap, _∙_, sym}
-use mathlib.Core.Bool.{false, not}
+use mathlib.Core.Bool.{true, false, not}
 use mathlib.Core.List.{List, _∷_, _++_}
 use Prim.Native.Nat.{ℕ, _≤_, _<_}
-use borrow.Author.Tests.{le-ltb, eq-eqb, ne-eqb, leb-false}
+use borrow.Author.Tests.{le-ltb, leb-false}
 use lib.Dec.{ltb, eqb}
 use lib.ListN.{length}
 use Rattle.laws.specs.Ladder.{Row, _when_, refusal}
 use Rattle.laws.proofs.Tests.{or-off}
-use Rattle.laws.proofs.Ladders.{on, off, not-on, not-off, quiet, first-refuses, first-passes}
+use Rattle.laws.proofs.Ladders.{on, off, quiet, first-refuses, first-passes}
 use Rattle.frame.specs.declared.Fields.{Fields}
 use Rattle.frame.specs.declared.Message.{Message}
 use Rattle.frame.specs.Frame.{fieldsOf, formRows}
@@ -47,12 +47,12 @@ module _ (p : Post) (s : List ℕ) (n : ℕ) (f : Fields) (e : f ≡ fieldsOf s)
     unfolding formRows
     formed z h = are-rows (off _ _ _ y (off _ _ _ (le-ltb n 12 l) (h ∙ first-passes (formRows (length s) f) (after-form f) (quiet (formRows (length s) f) tt (sym ea ∙ z)))))
 
-    pub elsewhere : a ≡ 0 → (f .feeder ≡ p .feeder → ⊥) → 6 ≡ refusal (receiveRows p s n)
-    elsewhere z d = formed z (on _ _ _ (not-on _ (ne-eqb _ _ d)) refl)
+    pub elsewhere : a ≡ 0 → not (eqb (f .feeder) (p .feeder)) ≡ true → 6 ≡ refusal (receiveRows p s n)
+    elsewhere z d = formed z (on _ _ _ d refl)
 
-    module _ (z : a ≡ 0) (d : f .feeder ≡ p .feeder) {b : ℕ} (eb : b ≡ refusal (from (f .message))) where
+    module _ (z : a ≡ 0) (d : not (eqb (f .feeder) (p .feeder)) ≡ false) {b : ℕ} (eb : b ≡ refusal (from (f .message))) where
       here : {r : ℕ} → r ≡ refusal (from (f .message) ++ turn (f .message)) → r ≡ refusal (receiveRows p s n)
-      here h = formed z (off _ _ _ (not-off _ (eq-eqb _ _ d)) h)
+      here h = formed z (off _ _ _ d h)
 
       pub no-sender : (b ≡ 0 → ⊥) → b ≡ refusal (receiveRows p s n)
       no-sender w = here (eb ∙ first-refuses (from (f .message)) (turn (f .message)) (λ q. w (eb ∙ q)))

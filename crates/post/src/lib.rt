@@ -408,7 +408,8 @@ impl Post {
         }
         let m = f.message;
         let sender = self.sender_number(m);
-        if f.feeder != self.feeder {
+        let elsewhere = f.feeder != self.feeder;
+        if elsewhere {
             return 6;
         }
         if sender != 0 {
