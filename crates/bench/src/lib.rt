@@ -62,9 +62,6 @@ pub(crate) struct Turned {
     pub at: usize,
 }
 
-// So many lines of commands are answered.
-const COMMANDS: u16 = 256;
-
 fn one_in(k: u8, phase: u8, lo: u8, hi: u8) -> u8
     requires { ⌜ k < 255 ⌝ }
     ensures { λ r. ⌜ r ≡ k + one? (leb lo phase && leb phase hi) ⌝ }
@@ -121,7 +118,7 @@ fn is_plain(mode: u8, number: u16, b: u8) -> bool
     if mode == 0 {
         return true;
     }
-    number < COMMANDS
+    number < Bench::COMMANDS
 }
 
 // A line of commands is whole.
@@ -131,7 +128,7 @@ fn is_asked(mode: u8, number: u16) -> bool
     if mode == 0 {
         return false;
     }
-    number < COMMANDS
+    number < Bench::COMMANDS
 }
 
 // A line is left, or even an empty one counts.
@@ -147,6 +144,9 @@ fn is_pending(mode: u8, len: u8) -> bool
 impl Bench {
     // No byte needs more room than this.
     pub const ROOM: usize = 64;
+
+    // So many lines of commands are answered.
+    pub const COMMANDS: u16 = 256;
 
     pub fn new() -> Self
         ensures { λ r. ⌜ r ≡ unfed ⌝ }
