@@ -2,99 +2,81 @@
 use bench::Bench;
 use libc::STDIN_FILENO;
 use libc::STDOUT_FILENO;
+ghost use mathlib.Core.Path.{_≡_};
+ghost use Prim.Native.Nat.{_≤_};
+ghost use lib.ListN.{length};
 
-struct Turn {
-    bench: Bench,
-    // there may be more to read
-    more: bool,
-    // all was written
-    good: bool,
+// Reads behind the first `len` bytes, and answers how many there are then.
+fn read_on(buf: &mut [u8], len: usize) -> usize
+    requires { ⌜ len ≤ length (now buf) ⌝ }
+    ensures { λ r. ⌜ (len ≤ r) × (r ≤ length (now (buf .exit))) × (length (now (buf .exit)) ≡ length (now (buf .entry))) ⌝ }
+{
+    let got = libc::read(STDIN_FILENO, &mut buf[len..]);
+    len + io::count(got, &buf[len..])
 }
 
-// Feeds what was read, and writes what that gives.
-fn feed_all(start: Bench, s: &[u8]) -> Turn {
-    let mut bench = start;
-    let mut out = [0u8; 4096];
-    let mut i = 0;
-    while i < s.len() {
-        let f = bench.feed(&s[i..], &mut out);
-        let used = f.used;
-        let written = f.written;
-        let next = f.bench;
-        bench = next;
-        if !io::write_all(STDOUT_FILENO, &out[..written]) {
-            return Turn {
-                bench,
-                more: false,
-                good: false,
-            };
-        }
-        if f.over {
-            return Turn {
-                bench,
-                more: false,
-                good: true,
-            };
-        }
-        // A bench that is not over uses a byte wherever there is so much room.
-        if used == 0 {
-            return Turn {
-                bench,
-                more: false,
-                good: true,
-            };
-        }
-        i += used;
+// What is read is to be fed: from `len` on it ends a line or the input, fills the buffer, or is of line 257, which its first byte ends.
+fn is_due(buf: &[u8], len: usize, end: usize, number: u16) -> bool
+    requires { ⌜ (len ≤ end) × (end ≤ length (now buf)) ⌝ }
+{
+    if end == len {
+        return true;
     }
-    Turn {
-        bench,
-        more: true,
-        good: true,
+    if end == buf.len() {
+        return true;
     }
+    if number == Bench::COMMANDS {
+        return true;
+    }
+    bytes::scan::find(buf, len, end, b'\n') < end
 }
 
-fn read_some(bench: Bench) -> Turn {
-    let mut buf = [0u8; 4096];
-    let got = libc::read(STDIN_FILENO, &mut buf);
-    let n = io::count(got, &buf);
-    if n == 0 {
-        return Turn {
-            bench,
-            more: false,
-            good: true,
-        };
-    }
-    feed_all(bench, &buf[..n])
-}
-
-// Nothing says that the input ends, so the turns are counted down from a number that no run uses up.
-fn run(start: Bench) -> Turn {
-    let mut bench = start;
-    let mut turns = u64::MAX;
-    while turns > 0 {
-        let t = read_some(bench);
-        if !t.more {
-            return t;
-        }
-        let next = t.bench;
-        bench = next;
-        turns -= 1;
-    }
-    Turn {
-        bench,
-        more: false,
-        good: true,
-    }
-}
-
-fn main() {
-    let t = run(Bench::new());
-    if !t.good {
-        return;
-    }
-    let bench = t.bench;
+fn finish(bench: Bench) {
     let mut out = [0u8; 64];
     let f = bench.finish(&mut out);
     let written = f.written;
     io::write_all(STDOUT_FILENO, &out[..written]);
+}
+
+// Feeding hands the whole bench on by value, so part of a line waits in the buffer for the rest.
+// Nothing says that the input ends, so the turns are counted down from a number that no run uses up.
+fn main() {
+    let mut bench = Bench::new();
+    let mut buf = [0u8; 4096];
+    let mut out = [0u8; 4096];
+    // so much of buf is read and not fed
+    let mut len = 0;
+    let mut turns = u64::MAX;
+    while turns > 0 {
+        turns -= 1;
+        let end = read_on(&mut buf, len);
+        if !is_due(&buf, len, end, bench.number) {
+            len = end;
+            continue;
+        }
+        let mut at = 0;
+        while at < end {
+            let f = bench.feed(&buf[at..end], &mut out);
+            let used = f.used;
+            let written = f.written;
+            let next = f.bench;
+            bench = next;
+            if !io::write_all(STDOUT_FILENO, &out[..written]) {
+                return;
+            }
+            if f.over {
+                return;
+            }
+            // A bench that is not over uses a byte wherever there is so much room.
+            if used == 0 {
+                return;
+            }
+            at += used;
+        }
+        if end == len {
+            break;
+        }
+        len = 0;
+    }
+    finish(bench);
 }
