@@ -256,8 +256,10 @@ impl Bench {
                 bench.line = blank;
                 written = text::answer(out, written, bench.number, c, r.number, r.granted);
             } else {
-                bench.night = night;
-                let t = bench.turn(out, written);
+                // In a bench of its own: nothing then reads the night that came in `bench`, and it is not copied.
+                let mut whole = bench;
+                whole.night = night;
+                let t = whole.turn(out, written);
                 let next = t.bench;
                 let other = next.night;
                 bench = next;
