@@ -14,7 +14,7 @@ use Rattle.bench.specs.declared.lines.Command.{Command}
 use Rattle.bench.specs.declared.lines.Command.the-variants.{Take, Return, Deliver, Unknown}
 use Rattle.laws.specs.Search.{same, from, pairs}
 use Rattle.bench.specs.Text.{decimal, text}
-use Rattle.bench.specs.Lines.{inside, inRange, everyCommand, commandOf, heading, headerText, headerOf}
+use Rattle.bench.specs.Lines.{inside, inRangeFor, everyCommand, commandOf, heading, headerText, headerOf}
 use Rattle.bench.specs.Inside.{digit, numberAt, afterAt, guessCommand, guessHeader, headerFits, Safe}
 use Rattle.laws.proofs.SearchLaws.{in-map, in-pairs, in-from, fixed, first-has, is-guess, no-fit, no-text}
 
@@ -24,8 +24,8 @@ below-16 : (n p : ℕ) → T (inside n p) → In p (from 0 16)
 unfolding inside
 below-16 n p t = in-from 0 16 p (omega arith) (let h = ltb→lt p 16 (and-r (ltb p n) (ltb p 16) t) in omega arith)
 
-every-in : (n : ℕ) (c : Command) → T (inRange n c) → In c everyCommand
-unfolding everyCommand inRange
+every-in : (n : ℕ) (c : Command) → T (inRangeFor n c) → In c everyCommand
+unfolding everyCommand inRangeFor
 every-in n (Take p) t = in-left (Take p) (map Take (from 0 16)) (map Return (from 0 16) ++ pairs Deliver (from 0 16) (from 0 16)) (in-map Take p (from 0 16) (below-16 n p t))
 every-in n (Return p) t =
     in-right (Return p) (map Take (from 0 16)) (map Return (from 0 16) ++ pairs Deliver (from 0 16) (from 0 16))
@@ -42,31 +42,31 @@ every-found : map (λ c. guessCommand (text c)) everyCommand ≡ everyCommand
 unfolding everyCommand from pairs guessCommand numberAt afterAt digit text decimal
 every-found = refl
 
-there : (n : ℕ) (c : Command) → T (inRange n c) → In c (keep (inRange n) everyCommand)
-there n c t = in-keep (inRange n) c everyCommand (every-in n c t) t
+there : (n : ℕ) (c : Command) → T (inRangeFor n c) → In c (keep (inRangeFor n) everyCommand)
+there n c t = in-keep (inRangeFor n) c everyCommand (every-in n c t) t
 
-only : (n : ℕ) (c : Command) → In c (keep (inRange n) everyCommand) → T (inRange n c)
-only n c i = keep-in (inRange n) c everyCommand i .1
+only : (n : ℕ) (c : Command) → In c (keep (inRangeFor n) everyCommand) → T (inRangeFor n c)
+only n c i = keep-in (inRangeFor n) c everyCommand i .1
 
-found : (n : ℕ) (c : Command) → In c (keep (inRange n) everyCommand) → guessCommand (text c) ≡ c
-found n c i = fixed (λ c. guessCommand (text c)) everyCommand every-found c (keep-in (inRange n) c everyCommand i .0)
+found : (n : ℕ) (c : Command) → In c (keep (inRangeFor n) everyCommand) → guessCommand (text c) ≡ c
+found n c i = fixed (λ c. guessCommand (text c)) everyCommand every-found c (keep-in (inRangeFor n) c everyCommand i .0)
 
 module _ (n : ℕ) (line : List ℕ) (g : Command) (e : g ≡ guessCommand line) where
-  pub is-command : inRange n g ≡ true → same (text g) line ≡ true → commandOf n line ≡ g
+  pub is-command : inRangeFor n g ≡ true → same (text g) line ≡ true → commandOf n line ≡ g
   unfolding commandOf
-  is-command = is-guess text guessCommand (keep (inRange n) everyCommand) (inRange n) (there n) (only n) (found n) Unknown line g e
+  is-command = is-guess text guessCommand (keep (inRangeFor n) everyCommand) (inRangeFor n) (there n) (only n) (found n) Unknown line g e
 
-  pub out-of-range : inRange n g ≡ false → commandOf n line ≡ Unknown
+  pub out-of-range : inRangeFor n g ≡ false → commandOf n line ≡ Unknown
   unfolding commandOf
-  out-of-range = no-fit text guessCommand (keep (inRange n) everyCommand) (inRange n) (there n) (only n) (found n) Unknown line g e
+  out-of-range = no-fit text guessCommand (keep (inRangeFor n) everyCommand) (inRangeFor n) (there n) (only n) (found n) Unknown line g e
 
   pub not-command : same (text g) line ≡ false → commandOf n line ≡ Unknown
   unfolding commandOf
-  not-command = no-text text guessCommand (keep (inRange n) everyCommand) (inRange n) (there n) (only n) (found n) Unknown line g e
+  not-command = no-text text guessCommand (keep (inRangeFor n) everyCommand) (inRangeFor n) (there n) (only n) (found n) Unknown line g e
 
 -- a command that a line is has posts below 16
-range-safe : (n : ℕ) (c : Command) → T (inRange n c) → Safe c
-unfolding inRange inside
+range-safe : (n : ℕ) (c : Command) → T (inRangeFor n c) → Safe c
+unfolding inRangeFor inside
 range-safe n (Take p) t = ltb→lt p 16 (and-r (ltb p n) (ltb p 16) t)
 range-safe n (Return p) t = ltb→lt p 16 (and-r (ltb p n) (ltb p 16) t)
 range-safe n (Deliver p q) t =
@@ -78,7 +78,7 @@ range-safe n Unknown t = absurd t
 
 pub command-safe : (n : ℕ) (line : List ℕ) → Safe (commandOf n line)
 unfolding commandOf
-command-safe n line = first-has Safe (λ c. same (text c) line) Unknown (keep (inRange n) everyCommand) tt (λ c i. range-safe n c (only n c i))
+command-safe n line = first-has Safe (λ c. same (text c) line) Unknown (keep (inRangeFor n) everyCommand) tt (λ c i. range-safe n c (only n c i))
 
 -- ---- headers
 

@@ -21,7 +21,7 @@ use Rattle.bench.specs.declared.lines.Header.{Header}
 use Rattle.bench.specs.declared.lines.Command.the-variants.{Unknown}
 use Rattle.laws.specs.Search.{same, from, pairs}
 use Rattle.bench.specs.Text.{decimal, text}
-use Rattle.bench.specs.Lines.{empty, pushed, kept, inRange, everyCommand, commandOf, heading, headerText, headerOf}
+use Rattle.bench.specs.Lines.{empty, pushed, kept, inRangeFor, everyCommand, commandOf, heading, headerText, headerOf}
 use Rattle.laws.proofs.SearchLaws.{same→eq, eq→same, first-cong}
 
 -- ---- the line that is kept of a piece
@@ -80,8 +80,8 @@ commands-short = all-at (λ c. ltb (length (text c)) 8) everyCommand tt
 pub command-kept : (n : ℕ) (l : List ℕ) → commandOf n (take 8 l) ≡ commandOf n l
 unfolding commandOf
 command-kept n l =
-    first-cong (λ c. same (text c) (take 8 l)) (λ c. same (text c) l) Unknown (keep (inRange n) everyCommand)
-    (λ c i. same-short (text c) l (ltb→lt (length (text c)) 8 (commands-short c (keep-in (inRange n) c everyCommand i .0))))
+    first-cong (λ c. same (text c) (take 8 l)) (λ c. same (text c) l) Unknown (keep (inRangeFor n) everyCommand)
+    (λ c i. same-short (text c) l (ltb→lt (length (text c)) 8 (commands-short c (keep-in (inRangeFor n) c everyCommand i .0))))
 
 headers-short : (h : Header) → In h (pairs heading (from 1 16) (from 1 16)) → T (ltb (length (headerText h)) 8)
 unfolding all from pairs headerText decimal

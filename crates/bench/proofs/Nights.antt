@@ -19,7 +19,7 @@ use Rattle.bench.specs.declared.calls.Called.{Called}
 use Rattle.bench.specs.declared.calls.Change.{Change}
 use Rattle.bench.specs.declared.lines.Command.{Command}
 use Rattle.bench.specs.declared.lines.Command.the-variants.{Deliver}
-use Rattle.bench.specs.Night.{receives, opened, postOf, after, seek, nextOf, passed, Ran, refused, answered, offered, ran}
+use Rattle.bench.specs.Night.{receives, opened, postOf, handedBack, seek, nextOf, passed, Ran, refused, answered, offered, ran}
 use Rattle.bench.specs.Inside.{calleeOf, pairOf, having, readTo, Changes}
 
 -- a record that stands there already
@@ -41,18 +41,18 @@ module _ (sent : List Message) (count read : ℕ) where
 
   module _ (c : Called) (at pair old : ℕ) (post : Post) where
     abbrev calls : Night → Ran
-    calls s = answered (readTo (after s at c) pair read) c
+    calls s = answered (readTo (handedBack s at c) pair read) c
 
     pub sent-one : c .answer .wrote && ltb count 256 ≡ true → count < 256
         → Changes calls at pair post sent count old
         (record { post = c .answer .post; to = count; message = c .message; count = count + 1; read = read; number = c .answer .number; granted = c .answer .granted })
-    unfolding after
+    unfolding handedBack
     sent-one e h = record { to = h; makes = λ posts reads f g. rw e }
 
     pub sent-none : c .answer .wrote && ltb count 256 ≡ false
         → Changes calls at pair post sent count old
         (record { post = c .answer .post; to = 0; message = getD sent 0 blank; count = count; read = read; number = c .answer .number; granted = c .answer .granted })
-    unfolding after
+    unfolding handedBack
     sent-none e = record {
       to = omega arith;
       makes = λ posts reads f g.
@@ -109,31 +109,31 @@ of-command c d e post sent count read h p = subst (λ (x : Command). Changes (λ
 
 module _ (s : Night) where
   -- a read position that stays
-  still : (at pair read : ℕ) (c : Called) → getD (s .read) pair 0 ≡ read → answered (readTo (after s at c) pair read) c ≡ answered (after s at c) c
-  unfolding after
-  still at pair read c e = λ i. answered (having (after s at c .posts) (after s at c .sent) (after s at c .count) (own-read (s .read) pair read e i)) c
+  still : (at pair read : ℕ) (c : Called) → getD (s .read) pair 0 ≡ read → answered (readTo (handedBack s at c) pair read) c ≡ answered (handedBack s at c) c
+  unfolding handedBack
+  still at pair read c e = λ i. answered (having (handedBack s at c .posts) (handedBack s at c .sent) (handedBack s at c .count) (own-read (s .read) pair read e i)) c
 
   -- a call on the record that stands there
   pub called-on : (g : Post → Called) (at pair read : ℕ) (c : Called) (post : Post) → c ≡ g post → getD (s .posts) at (opened 0 0 0) ≡ post → getD (s .read) pair 0 ≡ read
-      → answered (readTo (after s at c) pair read) c ≡ answered (after s at (g (postOf s at))) (g (postOf s at))
-  called-on g at pair read c post d e f = still at pair read c f ∙ ap (λ (x : Called). answered (after s at x) x) (d ∙ ap g (sym e))
+      → answered (readTo (handedBack s at c) pair read) c ≡ answered (handedBack s at (g (postOf s at))) (g (postOf s at))
+  called-on g at pair read c post d e f = still at pair read c f ∙ ap (λ (x : Called). answered (handedBack s at x) x) (d ∙ ap g (sym e))
 
   module _ (p q i : ℕ) (c : Called) (post : Post) (d : c ≡ receives post (getD (s .sent) i blank)) (e : getD (s .posts) q (opened 0 0 0) ≡ post) where
     abbrev offers : Called → Ran
-    offers c = answered (cond (eqb (c .answer .number) 0) (passed (after s q c) p q i) (after s q c)) c
+    offers c = answered (cond (eqb (c .answer .number) 0) (passed (handedBack s q c) p q i) (handedBack s q c)) c
 
     received : offers c ≡ offers (receives (postOf s q) (getD (s .sent) i blank))
     received = ap offers (d ∙ ap (λ (x : Post). receives x (getD (s .sent) i blank)) (sym e))
 
-    pub accepted : c .answer .number ≡ 0 → answered (readTo (after s q c) (16 * p + q) (i + 1)) c ≡ offered s p q i
+    pub accepted : c .answer .number ≡ 0 → answered (readTo (handedBack s q c) (16 * p + q) (i + 1)) c ≡ offered s p q i
     unfolding offered passed
-    accepted z = (λ j. answered (cond (sym (eq-eqb (c .answer .number) 0 z) j) (passed (after s q c) p q i) (after s q c)) c) ∙ received
+    accepted z = (λ j. answered (cond (sym (eq-eqb (c .answer .number) 0 z) j) (passed (handedBack s q c) p q i) (handedBack s q c)) c) ∙ received
 
-    pub stays-next : (c .answer .number ≡ 0 → ⊥) → (read : ℕ) → getD (s .read) (16 * p + q) 0 ≡ read → answered (readTo (after s q c) (16 * p + q) read) c ≡ offered s p q i
+    pub stays-next : (c .answer .number ≡ 0 → ⊥) → (read : ℕ) → getD (s .read) (16 * p + q) 0 ≡ read → answered (readTo (handedBack s q c) (16 * p + q) read) c ≡ offered s p q i
     unfolding offered
     stays-next z read f =
         still q (16 * p + q) read c f
-        ∙ (λ j. answered (cond (sym (ne-eqb (c .answer .number) 0 z) j) (passed (after s q c) p q i) (after s q c)) c)
+        ∙ (λ j. answered (cond (sym (ne-eqb (c .answer .number) 0 z) j) (passed (handedBack s q c) p q i) (handedBack s q c)) c)
         ∙ received
 
   module _ (p q i read : ℕ) (e : i ≡ seek p read (drop read (take (s .count) (s .sent)))) (f : getD (s .read) (16 * p + q) 0 ≡ read) where

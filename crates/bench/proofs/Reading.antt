@@ -19,7 +19,7 @@ use Rattle.laws.specs.Search.{first, same, from, pairs}
 use Rattle.bench.specs.Text.{decimal, answerLine, badHeader}
 use Rattle.bench.specs.Lines.{empty, headerOf, headerText, commandOf}
 use Rattle.bench.specs.Night.{begun, ran}
-use Rattle.bench.specs.Bench.{Step, writes, over, longer, headed, stops, turned, plain, stepped, lastOf, lastPiece, closed, ending, unfed}
+use Rattle.bench.specs.Bench.{Step, writes, halted, longer, headed, stops, turned, plain, stepped, closing, lastPiece, closed, ending, unfed}
 use Rattle.bench.specs.Output.{linesFrom, answersTo, nightOf, nightFrom, output}
 use Rattle.bench.proofs.Turning.{answers-is, turned-header, turned-command, turned-stop}
 use Rattle.bench.proofs.Feeding.{pending, none-pending}
@@ -104,7 +104,7 @@ module _ (posts places : ℕ) (s : Night) (i : ℕ) (l : List ℕ) (ls : List (L
   unfolding answersTo
   answers-more h = rw (lt-ltb i 256 h)
 
-  answers-stop : 256 ≤ i → answersTo posts places s i (l ∷ ls) ≡ answerLine 257 Unknown 17 false ++ lastOf places s
+  answers-stop : 256 ≤ i → answersTo posts places s i (l ∷ ls) ≡ answerLine 257 Unknown 17 false ++ closing places s
   unfolding answersTo
   answers-stop h = rw (le-ltb i 256 h)
 
@@ -174,7 +174,7 @@ commands-run (x ∷ xs) b piece g =
     let r = lines-any piece xs x in
     runs-as b x xs (stops b) (below-two b piece g)
     (turns-full b x (rw (ne-eqb (b .mode) 0 (not-header b piece g)) (le-ltb (b .number) 256 k)) ∙ turned-stop b (not-header b piece g) k)
-    ∙ ap (λ (l : List ℕ). stops b .text ++ l) (over-runs (over b) xs refl)
+    ∙ ap (λ (l : List ℕ). stops b .text ++ l) (over-runs (halted b) xs refl)
     ∙ append-nil (stops b .text)
     ∙ sym (ap (answersFor b) (r .2) ∙ answers-stop (b .posts) (b .places) (b .night) (b .number) (r .0) (r .1) k))
     (λ k.
@@ -195,7 +195,7 @@ commands-run (x ∷ xs) b piece g =
 
 abbrev heads : Bench → Header → Step
 heads b h =
-    cond (eqb (h .posts) 0) (writes (over b) badHeader)
+    cond (eqb (h .posts) 0) (writes (halted b) badHeader)
     (writes (record { night = begun (h .posts) (h .places); posts = h .posts; places = h .places; number = 0; mode = 1; line = empty }) [])
 
 headed-piece : (b : Bench) (piece : List ℕ) → b .mode ≡ 0 → Holds (b .line) piece → turned b ≡ heads b (headerOf piece)
@@ -206,7 +206,7 @@ heads-end : (b : Bench) (h : Header) → closed (heads b h) ≡ nightOf h []
 unfolding closed answersTo
 heads-end b h = go (eqb (h .posts) 0)
   where
-    go : (t : Bool) → closed (cond t (writes (over b) badHeader)
+    go : (t : Bool) → closed (cond t (writes (halted b) badHeader)
         (writes (record { night = begun (h .posts) (h .places); posts = h .posts; places = h .places; number = 0; mode = 1; line = empty }) []))
         ≡ cond t badHeader (answersTo (h .posts) (h .places) (begun (h .posts) (h .places)) 0 [])
     go true = refl
@@ -218,9 +218,9 @@ heads-run b h xs = go (eqb (h .posts) 0)
     start : Bench
     start = record { night = begun (h .posts) (h .places); posts = h .posts; places = h .places; number = 0; mode = 1; line = empty }
 
-    go : (t : Bool) → cond t (writes (over b) badHeader) (writes start []) .text ++ runs (cond t (writes (over b) badHeader) (writes start []) .bench) xs
+    go : (t : Bool) → cond t (writes (halted b) badHeader) (writes start []) .text ++ runs (cond t (writes (halted b) badHeader) (writes start []) .bench) xs
         ≡ cond t badHeader (answersTo (h .posts) (h .places) (begun (h .posts) (h .places)) 0 (linesFrom [] xs))
-    go true = ap (λ (l : List ℕ). badHeader ++ l) (over-runs (over b) xs refl)
+    go true = ap (λ (l : List ℕ). badHeader ++ l) (over-runs (halted b) xs refl)
     go false = commands-run xs start [] (record { mode = refl; holds = holds-none; few = omega arith; full = λ e. refl })
 
 no-header : nightOf (headerOf []) [] ≡ badHeader

@@ -17,7 +17,7 @@ use Rattle.bench.specs.declared.lines.Command.the-variants.{Unknown}
 use Rattle.bench.specs.Text.{badHeader, answerLine}
 use Rattle.bench.specs.Lines.{empty, kept, headerOf, commandOf}
 use Rattle.bench.specs.Night.{begun, ran}
-use Rattle.bench.specs.Bench.{Step, writes, isOver, over, longer, headed, answers, stops, turned, plain, stepped, Feeding, feeding, Feeds, inPhases, lastOf, lastPiece, closed, ending, finished, finishedBytes, Turns}
+use Rattle.bench.specs.Bench.{Step, writes, isOver, halted, longer, headed, answers, stops, turned, plain, stepped, Feeding, feeding, Feeds, inPhases, closing, lastPiece, closed, ending, finished, finishedBytes, Turns}
 use Rattle.bench.proofs.Putting.{answer-few, last-few}
 use Rattle.bench.proofs.Feeding.{roomy}
 
@@ -50,7 +50,7 @@ unfolding headed
 headed-few b = go (headerOf (kept (b .line))) (eqb (headerOf (kept (b .line)) .posts) 0)
   where
     go : (h : Header) (t : Bool)
-        → Few (cond t (writes (over b) badHeader) (writes (record { night = begun (h .posts) (h .places); posts = h .posts; places = h .places; number = 0; mode = 1; line = empty }) []))
+        → Few (cond t (writes (halted b) badHeader) (writes (record { night = begun (h .posts) (h .places); posts = h .posts; places = h .places; number = 0; mode = 1; line = empty }) []))
     go h true = (omega arith, λ e. absurd (omega arith))
     go h false = (omega arith, λ e. omega arith)
 
@@ -61,14 +61,14 @@ answers-few b =
     let l = answer-few (b .number + 1) c (ran (b .night) c .number) (ran (b .night) c .granted) in
     (omega arith, λ e. omega arith)
 
-last-line-few : (places : ℕ) (b : Bench) → length (lastOf places (b .night)) ≤ 32
-unfolding lastOf
+last-line-few : (places : ℕ) (b : Bench) → length (closing places (b .night)) ≤ 32
+unfolding closing
 last-line-few places b = last-few places (inPhases 3 3 (b .night .posts)) (inPhases 1 2 (b .night .posts))
 
 stops-few : (b : Bench) → Few (stops b)
 unfolding stops
 stops-few b =
-    let l = length-append (answerLine 257 Unknown 17 false) (lastOf (b .places) (b .night)) in
+    let l = length-append (answerLine 257 Unknown 17 false) (closing (b .places) (b .night)) in
     let m = answer-few 257 Unknown 17 false in
     let n = last-line-few (b .places) b in
     (omega arith, λ e. absurd (omega arith))
@@ -94,9 +94,9 @@ closed-few : (s : Step) → Few s → length (closed s) ≤ 64
 unfolding closed
 closed-few s f = go (eqb (s .bench .mode) 1) (λ t. eqb→eq (s .bench .mode) 1 t)
   where
-    go : (t : Bool) → (T t → s .bench .mode ≡ 1) → length (s .text ++ cond t (lastOf (s .bench .places) (s .bench .night)) []) ≤ 64
+    go : (t : Bool) → (T t → s .bench .mode ≡ 1) → length (s .text ++ cond t (closing (s .bench .places) (s .bench .night)) []) ≤ 64
     go true h =
-        let l = length-append (s .text) (lastOf (s .bench .places) (s .bench .night)) in
+        let l = length-append (s .text) (closing (s .bench .places) (s .bench .night)) in
         let m = last-line-few (s .bench .places) (s .bench) in
         let n = f .1 (h tt) in
         omega arith

@@ -20,7 +20,7 @@ use Rattle.bench.specs.Text.{answerLine, badHeader, Puts}
 use Rattle.bench.specs.Lines.{empty, kept, headerOf, commandOf}
 use Rattle.bench.specs.Night.{opened, begun, Ran, ran}
 use Rattle.bench.specs.Inside.{calleeOf, pairOf, changed, Changes}
-use Rattle.bench.specs.Bench.{Step, writes, over, headed, answers, stops, asked, turned, Turns}
+use Rattle.bench.specs.Bench.{Step, writes, halted, headed, answers, stops, asked, turned, Turns}
 use Rattle.bench.proofs.Putting.{answer-few}
 
 -- nothing is put
@@ -34,10 +34,10 @@ turns-as e p = rw e p
 module _ (b : Bench) (h : Header) (e : h ≡ headerOf (kept (b .line))) where
   abbrev heads : Header → Step
   heads h =
-      cond (eqb (h .posts) 0) (writes (over b) badHeader)
+      cond (eqb (h .posts) 0) (writes (halted b) badHeader)
       (writes (record { night = begun (h .posts) (h .places); posts = h .posts; places = h .places; number = 0; mode = 1; line = empty }) [])
 
-  pub headed-bad : h .posts ≡ 0 → headed b ≡ writes (over b) badHeader
+  pub headed-bad : h .posts ≡ 0 → headed b ≡ writes (halted b) badHeader
   unfolding headed
   headed-bad z = ap heads (sym e) ∙ sym (on (eqb (h .posts) 0) _ _ (eq-eqb (h .posts) 0 z) refl)
 
@@ -79,7 +79,7 @@ module _ (b : Bench) where
   turned-long e n = go (eqb (b .mode) 0) (ltb (b .number) 256) e
     where
       heads : (t : Bool) (h : Header)
-          → length (cond t (writes (over b) badHeader) (writes (record { night = begun (h .posts) (h .places); posts = h .posts; places = h .places; number = 0; mode = 1; line = empty }) []) .bench .night .posts) ≡ 16
+          → length (cond t (writes (halted b) badHeader) (writes (record { night = begun (h .posts) (h .places); posts = h .posts; places = h .places; number = 0; mode = 1; line = empty }) []) .bench .night .posts) ≡ 16
       heads true h = n
       heads false h = refl
 

@@ -18,8 +18,8 @@ unfoldable pub inPhases : ℕ → ℕ → List Post → ℕ
 inPhases lo hi posts = many (λ p. leb lo (p .phase) && leb (p .phase) hi) posts
 
 -- places, posts in phase 3, posts in phases 1 and 2
-unfoldable pub lastOf : ℕ → Night → List ℕ
-lastOf places s = lastLine places (inPhases 3 3 (s .posts)) (inPhases 1 2 (s .posts))
+unfoldable pub closing : ℕ → Night → List ℕ
+closing places s = lastLine places (inPhases 3 3 (s .posts)) (inPhases 1 2 (s .posts))
 
 -- the bench after something, and what it wrote
 pub record Step : Type 0 where
@@ -36,14 +36,14 @@ unfed = record { night = begun 0 0; posts = 0; places = 0; number = 0; mode = 0;
 abbrev pub isOver : Bench → Bool
 isOver b = leb 2 (b .mode)
 
-abbrev pub over : Bench → Bench
-over b = record { night = b .night; posts = b .posts; places = b .places; number = b .number; mode = 2; line = b .line }
+abbrev pub halted : Bench → Bench
+halted b = record { night = b .night; posts = b .posts; places = b .places; number = b .number; mode = 2; line = b .line }
 
 -- the first line is whole
 unfoldable pub headed : Bench → Step
 headed b =
     let h = headerOf (kept (b .line)) in
-    cond (eqb (h .posts) 0) (writes (over b) badHeader)
+    cond (eqb (h .posts) 0) (writes (halted b) badHeader)
     (writes (record { night = begun (h .posts) (h .places); posts = h .posts; places = h .places; number = 0; mode = 1; line = empty }) [])
 
 -- a line of commands is whole
@@ -56,7 +56,7 @@ answers b =
 
 -- line 257 has a byte
 unfoldable pub stops : Bench → Step
-stops b = writes (over b) (answerLine 257 Unknown 17 false ++ lastOf (b .places) (b .night))
+stops b = writes (halted b) (answerLine 257 Unknown 17 false ++ closing (b .places) (b .night))
 
 unfoldable pub turned : Bench → Step
 turned b = cond (eqb (b .mode) 0) (headed b) (cond (ltb (b .number) 256) (answers b) (stops b))
@@ -96,7 +96,7 @@ unfoldable pub lastPiece : Bench → Step
 lastPiece b = cond (eqb (b .mode) 0 || not (eqb (b .line .len) 0)) (turned b) (writes b [])
 
 unfoldable pub closed : Step → List ℕ
-closed s = s .text ++ cond (eqb (s .bench .mode) 1) (lastOf (s .bench .places) (s .bench .night)) []
+closed s = s .text ++ cond (eqb (s .bench .mode) 1) (closing (s .bench .places) (s .bench .night)) []
 
 unfoldable pub ending : Bench → List ℕ
 ending b = cond (isOver b) [] (closed (lastPiece b))

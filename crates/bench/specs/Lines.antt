@@ -26,18 +26,18 @@ unfoldable pub inside : ℕ → ℕ → Bool
 inside n p = ltb p n && ltb p 16
 
 -- in range for N posts
-unfoldable pub inRange : ℕ → Command → Bool
-inRange n (Take p) = inside n p
-inRange n (Return p) = inside n p
-inRange n (Deliver p q) = inside n p && (inside n q && not (eqb p q))
-inRange n Unknown = false
+unfoldable pub inRangeFor : ℕ → Command → Bool
+inRangeFor n (Take p) = inside n p
+inRangeFor n (Return p) = inside n p
+inRangeFor n (Deliver p q) = inside n p && (inside n q && not (eqb p q))
+inRangeFor n Unknown = false
 
 unfoldable pub everyCommand : List Command
 everyCommand = map Take (from 0 16) ++ (map Return (from 0 16) ++ pairs Deliver (from 0 16) (from 0 16))
 
 -- the command in range for N posts whose text the line is
 unfoldable pub commandOf : ℕ → List ℕ → Command
-commandOf n line = first (λ c. same (text c) line) Unknown (keep (inRange n) everyCommand)
+commandOf n line = first (λ c. same (text c) line) Unknown (keep (inRangeFor n) everyCommand)
 
 -- ---- headers
 

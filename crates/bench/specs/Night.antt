@@ -44,8 +44,8 @@ abbrev pub postOf : Night → ℕ → Post
 postOf s p = getD (s .posts) p (opened 0 0 0)
 
 -- post p's record is the one handed back, and what was written is sent
-unfoldable pub after : Night → ℕ → Called → Night
-after s p c =
+unfoldable pub handedBack : Night → ℕ → Called → Night
+handedBack s p c =
     let sends = c .answer .wrote && ltb (s .count) 256 in
     record {
       posts = set (s .posts) p (c .answer .post);
@@ -85,10 +85,10 @@ answered s c = record { night = s; number = c .answer .number; granted = c .answ
 unfoldable pub offered : Night → ℕ → ℕ → ℕ → Ran
 offered s p q i =
     let c = receives (postOf s q) (getD (s .sent) i blank) in
-    answered (cond (eqb (c .answer .number) 0) (passed (after s q c) p q i) (after s q c)) c
+    answered (cond (eqb (c .answer .number) 0) (passed (handedBack s q c) p q i) (handedBack s q c)) c
 
 unfoldable pub ran : Night → Command → Ran
-ran s (Take p) = let c = takes (postOf s p) in answered (after s p c) c
-ran s (Return p) = let c = givesBack (postOf s p) in answered (after s p c) c
+ran s (Take p) = let c = takes (postOf s p) in answered (handedBack s p c) c
+ran s (Return p) = let c = givesBack (postOf s p) in answered (handedBack s p c) c
 ran s (Deliver p q) = cond (leb 256 (nextOf s p q)) (refused s 15) (offered s p q (nextOf s p q))
 ran s Unknown = refused s 16

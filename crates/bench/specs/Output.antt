@@ -6,7 +6,7 @@ use Rattle.bench.specs.declared.lines.Command.the-variants.{Unknown}
 use Rattle.bench.specs.Text.{answerLine, badHeader}
 use Rattle.bench.specs.Lines.{headerOf, commandOf}
 use Rattle.bench.specs.Night.{begun, ran}
-use Rattle.bench.specs.Bench.{lastOf}
+use Rattle.bench.specs.Bench.{closing}
 
 -- what stands between LFs, after a piece that is read; a last piece counts if it has a byte
 unfoldable pub linesFrom : List ℕ → List ℕ → List (List ℕ)
@@ -15,13 +15,13 @@ linesFrom piece (b ∷ bs) = cond (eqb b 10) (piece ∷ linesFrom [] bs) (linesF
 
 -- the answers to lines of commands, after i of them, and the last line; at line 257 it stops
 unfoldable pub answersTo : ℕ → ℕ → Night → ℕ → List (List ℕ) → List ℕ
-answersTo posts places s i [] = lastOf places s
+answersTo posts places s i [] = closing places s
 answersTo posts places s i (l ∷ ls) =
     let c = commandOf posts l in
     let r = ran s c in
     cond (ltb i 256)
     (answerLine (i + 1) c (r .number) (r .granted) ++ answersTo posts places (r .night) (i + 1) ls)
-    (answerLine 257 Unknown 17 false ++ lastOf places s)
+    (answerLine 257 Unknown 17 false ++ closing places s)
 
 abbrev pub nightOf : Header → List (List ℕ) → List ℕ
 nightOf h ls = cond (eqb (h .posts) 0) badHeader (answersTo (h .posts) (h .places) (begun (h .posts) (h .places)) 0 ls)

@@ -10,7 +10,7 @@ ghost use Prim.Native.Nat.{ℕ, _≤_, _<_, _+_, _*_};
 ghost use lib.Dec.{ltb};
 ghost use lib.ListN.{take, drop};
 ghost use Rattle.post.specs.declared.Post.{Post};
-ghost use Rattle.bench.specs.Night.{takes, givesBack, receives, opened, begun, after, seek, refused, answered, offered, ran};
+ghost use Rattle.bench.specs.Night.{takes, givesBack, receives, opened, begun, handedBack, seek, refused, answered, offered, ran};
 ghost use Rattle.bench.specs.Inside.{Safe, calleeOf, pairOf, readTo, Changes};
 
 const BLANK: Message = Message {
@@ -149,7 +149,7 @@ fn sends(wrote: bool, count: u16) -> bool
 
 // After a call, with this read position from then on.
 fn after(sent: [Message; 256], count: u16, read: u16, called: Called) -> Change
-    ensures { λ r. ⌜ ((at pair old : ℕ) (post : Post) → Changes (λ s. answered (readTo (after s at called) pair read) called) at pair post sent count old r) ⌝ }
+    ensures { λ r. ⌜ ((at pair old : ℕ) (post : Post) → Changes (λ s. answered (readTo (handedBack s at called) pair read) called) at pair post sent count old r) ⌝ }
 {
     let a = called.answer;
     let post = a.post;

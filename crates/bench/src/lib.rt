@@ -13,7 +13,7 @@ ghost use lib.Dec.{leb, ltb, eqb};
 ghost use lib.ListN.{length};
 ghost use Rattle.laws.specs.Below.{one?};
 ghost use Rattle.bench.specs.Text.{Puts};
-ghost use Rattle.bench.specs.Bench.{inPhases, lastOf, unfed, headed, stops, asked, turned, lastPiece, feeding, Feeds, finished, finishedBytes, Ends, Turns};
+ghost use Rattle.bench.specs.Bench.{inPhases, closing, unfed, headed, stops, asked, turned, lastPiece, feeding, Feeds, finished, finishedBytes, Ends, Turns};
 
 // The line being read: its first 8 bytes, and how many of these there are. No text of a command or header has 8.
 pub struct Line {
@@ -91,7 +91,7 @@ fn in_phases(posts: [Post; 16], lo: u8, hi: u8) -> u8
 
 fn last_line(night: Night, places: u8, out: &mut [u8], at: usize) -> usize
     requires { ⌜ at + 32 ≤ length (now out) ⌝ }
-    ensures { λ r. ⌜ Puts (now (out .entry)) (now (out .exit)) at (lastOf places night) r × (r ≤ at + 32) ⌝ }
+    ensures { λ r. ⌜ Puts (now (out .entry)) (now (out .exit)) at (closing places night) r × (r ≤ at + 32) ⌝ }
 {
     let posts = night.posts;
     let held = in_phases(posts, 3, 3);

@@ -6,7 +6,7 @@ ghost use Prim.Native.Nat.{_≤_, _<_};
 ghost use lib.ListN.{getD};
 ghost use Rattle.bench.specs.Text.{text};
 ghost use Rattle.laws.specs.Search.{same};
-ghost use Rattle.bench.specs.Lines.{empty, pushed, kept, inside, inRange, commandOf, headerText, headerOf};
+ghost use Rattle.bench.specs.Lines.{empty, pushed, kept, inside, inRangeFor, commandOf, headerText, headerOf};
 ghost use Rattle.bench.specs.Inside.{digit, numberAt, afterAt, guessHeader, guessCommand, headerFits};
 
 // What a line asks for.
@@ -135,7 +135,7 @@ fn inside(n: u8, p: u8) -> bool
 }
 
 fn in_range(n: u8, c: Command) -> bool
-    ensures { λ r. ⌜ r ≡ inRange n c ⌝ }
+    ensures { λ r. ⌜ r ≡ inRangeFor n c ⌝ }
 {
     match c {
         Command::Take(p) => inside(n, p),

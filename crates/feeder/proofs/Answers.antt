@@ -15,7 +15,7 @@ use Rattle.frame.specs.Table.{takeTests, returnTests, receiveTests}
 use Rattle.frame.proofs.Passing.{take-passed, return-passed}
 use Rattle.queue.specs.Queue.{Start, Queue, clock, phase}
 use Rattle.queue.specs.Replies.{take-call, return-call, receive-call, told, Answer, refused}
-use Rattle.queue.specs.Calls.{saying, say, acks, accept, grantCame, receiveRows, done, said, received, onQueue}
+use Rattle.queue.specs.Calls.{saying, say, acks, accept, grantCame, receiveRows, answer, said, received, onQueue}
 use Rattle.queue.proofs.Changes.{accepted, receives-new}
 use Rattle.queue.proofs.Clocks.{clock-put}
 use Rattle.queue.proofs.Fitting.{Fitting, fitting-change}
@@ -38,7 +38,7 @@ past-one t n y = rw (is-true t y)
 
 -- done, with the queue q before and q′ after
 same-done : (st : Start) (q q′ : Queue) (p′ : Post) (wrote : Bool) (bytes bytes′ : List ℕ) → p′ ≡ image st q′ → bytes ≡ bytes′
-    → Same st (answered (record { gives = post.answer (image st q .phase) p′ wrote; leaves = bytes })) (done st q q′ wrote bytes′)
+    → Same st (answered (record { gives = post.answer (image st q .phase) p′ wrote; leaves = bytes })) (answer st q q′ wrote bytes′)
 unfolding grantCame image
 same-done st q q′ p′ wrote bytes bytes′ e d = record { next = e; reply = λ i. told 0 wrote (not (eqb (phase st q) 3) && eqb (e i .phase) 3) (d i) }
 
@@ -100,13 +100,13 @@ module _ (st : Start) (q : Queue) (k : Fitting st q) (s : T (sound (image st q))
 
   same-heard : (m : Message) (lent : List ℕ) (q′ : Queue) → settle (cond (counted m) (post.came p m) (post.noted p m)) ≡ image st q′
       → Same st (answered (post.heardFrom p m lent))
-      (done st q q′ (counted m) (cond (counted m) (over (st .feeder) (saying st 3 (put stamp m q)) lent) lent))
+      (answer st q q′ (counted m) (cond (counted m) (over (st .feeder) (saying st 3 (put stamp m q)) lent) lent))
   unfolding post.heardFrom
   same-heard m lent q′ = go (counted m)
     where
       go : (b : Bool) → settle (cond b (post.came p m) (post.noted p m)) ≡ image st q′
           → Same st (answered (cond b (post.acknowledged p m lent) (record { gives = post.answer (p .phase) (settle (post.noted p m)) false; leaves = lent })))
-          (done st q q′ b (cond b (over (st .feeder) (saying st 3 (put stamp m q)) lent) lent))
+          (answer st q q′ b (cond b (over (st .feeder) (saying st 3 (put stamp m q)) lent) lent))
       go true e = same-done st q q′ _ true _ _ e (ack-bytes m lent)
       go false e = same-done st q q′ _ false _ _ e refl
 

@@ -19,7 +19,7 @@ use Rattle.frame.proofs.FrameFields.{frame-fields}
 use Rattle.queue.specs.Queue.{Queue, settled, grants}
 use Rattle.queue.specs.Replies.{Call, take-call, return-call, receive-call}
 use Rattle.queue.specs.Calls.{onQueue}
-use Rattle.queue.specs.Feeder.{Line, start, Feeder, fresh, sent, had, pending, Act, takeAt, returnAt, deliver, none, at-post, buffer, offered, made, after, run}
+use Rattle.queue.specs.Feeder.{Line, start, Feeder, fresh, sent, had, pending, Act, takeAt, returnAt, deliver, none, at-post, buffer, offered, comesTo, afterMade, run}
 use Rattle.queue.specs.Demand3.{marked}
 use Rattle.queue.proofs.Changes.{change}
 use Rattle.queue.proofs.Grants.{grants-after}
@@ -96,7 +96,7 @@ drop-map g (suc n) (x ∷ l) = drop-map g n l
 
 module _ (L : Line) (fits : LineFits L) (narrow : L .feeder ≤ 255) (s : Boards) (f : Feeder) (w : Ran L f) (m : Matches L s f) where
   at-one : (p : ℕ) → p < L .posts → (c : Call) → CounterFits c → (from : ℕ → Bool) → ((r : ℕ) → from r ≡ brings c r)
-      → Matches L (with-board s p (called (s p) c from)) (after L f (at-post p c))
+      → Matches L (with-board s p (called (s p) c from)) (afterMade L f (at-post p c))
   at-one p l c x from e r lr =
       let b = called (s p) c from in
       let q = onQueue (start L p) (f p) c .next in
@@ -110,7 +110,7 @@ module _ (L : Line) (fits : LineFits L) (narrow : L .feeder ≤ 255) (s : Boards
 
   -- the next message of p to q, or none
   at-offer : (p q : ℕ) → p < L .posts → q < L .posts → (ms : List Message) → had f p q ++ ms ≡ sent f p
-      → Matches L (offers s p q (map (frame (L .feeder)) ms)) (after L f (offered L q ms))
+      → Matches L (offers s p q (map (frame (L .feeder)) ms)) (afterMade L f (offered L q ms))
   at-offer p q lp lq [] e = m
   at-offer p q lp lq (x ∷ ms) e =
       let i = keep-in (by p) x (f p) (subst (In x) e (in-right x (had f p q) (x ∷ ms) (inl refl))) in
@@ -130,31 +130,31 @@ module _ (L : Line) (fits : LineFits L) (narrow : L .feeder ≤ 255) (s : Boards
 
   -- a take or return at p, which brings no message
   at-own : (p : ℕ) (c : Call) → CounterFits c → ((r : ℕ) → false ≡ brings c r)
-      → Matches L (cond (ltb p (L .posts)) (with-board s p (called (s p) c (λ r. false))) s) (after L f (cond (ltb p (L .posts)) (at-post p c) none))
+      → Matches L (cond (ltb p (L .posts)) (with-board s p (called (s p) c (λ r. false))) s) (afterMade L f (cond (ltb p (L .posts)) (at-post p c) none))
   at-own p c x e = go (ltb p (L .posts)) (ltb→lt p (L .posts))
     where
-      go : (t : Bool) → (T t → p < L .posts) → Matches L (cond t (with-board s p (called (s p) c (λ r. false))) s) (after L f (cond t (at-post p c) none))
+      go : (t : Bool) → (T t → p < L .posts) → Matches L (cond t (with-board s p (called (s p) c (λ r. false))) s) (afterMade L f (cond t (at-post p c) none))
       go true l = at-one p (l tt) c x (λ r. false) e
       go false l = m
 
-  matches-act : (a : Act) → Matches L (acted L s a) (after L f (made L f a))
-  unfolding acted made pending
+  matches-act : (a : Act) → Matches L (acted L s a) (afterMade L f (comesTo L f a))
+  unfolding acted comesTo pending
   matches-act (takeAt p) = at-own p (take-call buffer) tt (λ r. refl)
   matches-act (returnAt p) = at-own p (return-call buffer) tt (λ r. refl)
   matches-act (deliver p q) = go (ltb p (L .posts) && (ltb q (L .posts) && not (eqb p q))) ready
     where
       ready : T (ltb p (L .posts) && (ltb q (L .posts) && not (eqb p q)))
-          → Matches L (offers s p q (drop (s q .accepted p) (s p .wrote))) (after L f (offered L q (pending f p q)))
+          → Matches L (offers s p q (drop (s q .accepted p) (s p .wrote))) (afterMade L f (offered L q (pending f p q)))
       ready y =
           let lp = ltb→lt p (L .posts) (and-l (ltb p (L .posts)) _ y) in
           let z = and-r (ltb p (L .posts)) _ y in
           let lq = ltb→lt q (L .posts) (and-l (ltb q (L .posts)) _ z) in
           let d = neqb→ne p q (and-r (ltb q (L .posts)) _ z) in
-          subst (λ (x : List (List ℕ)). Matches L (offers s p q x) (after L f (offered L q (pending f p q)))) (sym (frames-left p q lp lq d))
+          subst (λ (x : List (List ℕ)). Matches L (offers s p q x) (afterMade L f (offered L q (pending f p q)))) (sym (frames-left p q lp lq d))
           (at-offer p q lp lq (pending f p q) (begins-drop (had f p q) (sent f p) (w .faithful p q lp lq d)))
 
-      go : (t : Bool) → (T t → Matches L (offers s p q (drop (s q .accepted p) (s p .wrote))) (after L f (offered L q (pending f p q))))
-          → Matches L (cond t (offers s p q (drop (s q .accepted p) (s p .wrote))) s) (after L f (cond t (offered L q (pending f p q)) none))
+      go : (t : Bool) → (T t → Matches L (offers s p q (drop (s q .accepted p) (s p .wrote))) (afterMade L f (offered L q (pending f p q))))
+          → Matches L (cond t (offers s p q (drop (s q .accepted p) (s p .wrote))) s) (afterMade L f (cond t (offered L q (pending f p q)) none))
       go true h = h tt
       go false h = m
 
@@ -165,4 +165,4 @@ pub matches-run : (L : Line) → LineFits L → L .feeder ≤ 255 → (acts : Li
 unfolding runBoards run
 matches-run L fits narrow [] s f w m = m
 matches-run L fits narrow (a ∷ acts) s f w m =
-    matches-run L fits narrow acts (acted L s a) (after L f (made L f a)) (ran-act L narrow f w a) (matches-act L fits narrow s f w m a)
+    matches-run L fits narrow acts (acted L s a) (afterMade L f (comesTo L f a)) (ran-act L narrow f w a) (matches-act L fits narrow s f w m a)

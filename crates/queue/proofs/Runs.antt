@@ -21,7 +21,7 @@ use Rattle.queue.specs.Queue.{Start, Queue, clock}
 use Rattle.queue.specs.Replies.{Call, take-call, return-call, receive-call, value-call, missing-call}
 use Rattle.queue.specs.Calls.{saying, say, acks, accept, onQueue}
 use Rattle.queue.specs.Feeder.{Line, start, Feeder, fresh, sent, had, pending, Act, takeAt, returnAt, deliver, none, at-post}
-use Rattle.queue.specs.Feeder.{buffer, offered, made, with-queue, after, run}
+use Rattle.queue.specs.Feeder.{buffer, offered, comesTo, with-queue, afterMade, run}
 use Rattle.queue.specs.Demand3.{Faithful}
 use Rattle.queue.proofs.Good.{New, le-clock}
 use Rattle.queue.proofs.Changes.{Change, unchanged, took, gave-back, accepted, change}
@@ -144,7 +144,7 @@ module _ (L : Line) (s : Feeder) (w : Ran L s) (p : ℕ) (l : p < L .posts) wher
           subst (λ (x : ℕ). Begins (had s x b) (keep (by x) q)) (sym e)
           (begins-trans (had s p b) (sent s p) (keep (by p) q) (w .faithful p b l lb (λ x. d (e ∙ x))) (n .own))
 
-  ran-call : (c : Call) → Brings L s p c → Ran L (after L s (at-post p c))
+  ran-call : (c : Call) → Brings L s p c → Ran L (afterMade L s (at-post p c))
   ran-call c b =
       let q = onQueue st (s p) c .next in
       let d = change st (s p) c in
@@ -162,25 +162,25 @@ module _ (L : Line) (f : L .feeder ≤ 255) (s : Feeder) (w : Ran L s) where
       record { feeder = omega arith; kind = omega arith; sender = omega arith; counter = omega arith }
 
   -- the next message of p is offered to q
-  ran-offer : (p q : ℕ) → p < L .posts → q < L .posts → (ms : List Message) → had s p q ++ ms ≡ sent s p → Ran L (after L s (offered L q ms))
+  ran-offer : (p q : ℕ) → p < L .posts → q < L .posts → (ms : List Message) → had s p q ++ ms ≡ sent s p → Ran L (afterMade L s (offered L q ms))
   ran-offer p q lp lq [] e = w
   ran-offer p q lp lq (m ∷ ms) e =
       let i = follower L s q m (p, lp, ms, e) .0 in
       let back = ap (λ (x : Fields). x .message) (frame-fields (L .feeder) m (in-width p lp m i)) in
       ran-call L s w q lq (receive-call (frame (L .feeder) m) buffer) (subst (Follows L s q) (sym back) (p, lp, ms, e))
 
-  pub ran-act : (a : Act) → Ran L (after L s (made L s a))
-  unfolding made pending
+  pub ran-act : (a : Act) → Ran L (afterMade L s (comesTo L s a))
+  unfolding comesTo pending
   ran-act (takeAt p) =
-      cond-both (λ x. Ran L (after L s x)) (ltb p (L .posts)) (at-post p (take-call buffer)) none
+      cond-both (λ x. Ran L (afterMade L s x)) (ltb p (L .posts)) (at-post p (take-call buffer)) none
       (λ y. ran-call L s w p (ltb→lt p (L .posts) y) (take-call buffer) tt)
       (λ n. w)
   ran-act (returnAt p) =
-      cond-both (λ x. Ran L (after L s x)) (ltb p (L .posts)) (at-post p (return-call buffer)) none
+      cond-both (λ x. Ran L (afterMade L s x)) (ltb p (L .posts)) (at-post p (return-call buffer)) none
       (λ y. ran-call L s w p (ltb→lt p (L .posts) y) (return-call buffer) tt)
       (λ n. w)
   ran-act (deliver p q) =
-      cond-both (λ x. Ran L (after L s x)) (ltb p (L .posts) && (ltb q (L .posts) && not (eqb p q))) (offered L q (pending s p q)) none
+      cond-both (λ x. Ran L (afterMade L s x)) (ltb p (L .posts) && (ltb q (L .posts) && not (eqb p q))) (offered L q (pending s p q)) none
       (λ y.
       let lp = ltb→lt p (L .posts) (and-l (ltb p (L .posts)) _ y) in
       let z = and-r (ltb p (L .posts)) _ y in
@@ -200,7 +200,7 @@ ran-fresh L few = record {
 ran-on : (L : Line) → L .feeder ≤ 255 → (acts : List Act) (s : Feeder) → Ran L s → Ran L (run L s acts)
 unfolding run
 ran-on L f [] s w = w
-ran-on L f (a ∷ acts) s w = ran-on L f acts (after L s (made L s a)) (ran-act L f s w a)
+ran-on L f (a ∷ acts) s w = ran-on L f acts (afterMade L s (comesTo L s a)) (ran-act L f s w a)
 
 pub ran : (L : Line) → L .posts ≤ 16 → L .feeder ≤ 255 → (acts : List Act) → Ran L (run L fresh acts)
 ran L few f acts = ran-on L f acts fresh (ran-fresh L few)

@@ -24,16 +24,16 @@ unfoldable pub grantCame : Start → Queue → Queue → Bool
 grantCame st q q′ = not (eqb (phase st q) 3) && eqb (phase st q′) 3
 
 -- done, with the queue before and after
-abbrev pub done : Start → Queue → Queue → Bool → List ℕ → Answer Queue
-done st q q′ wrote lent = record { next = q′; reply = told 0 wrote (grantCame st q q′) lent }
+abbrev pub answer : Start → Queue → Queue → Bool → List ℕ → Answer Queue
+answer st q q′ wrote lent = record { next = q′; reply = told 0 wrote (grantCame st q q′) lent }
 
 -- an own message of a kind is sent
 unfoldable pub said : Start → Queue → ℕ → List ℕ → Answer Queue
-said st q kind lent = done st q (say st kind q) true (over (st .feeder) (saying st kind q) lent)
+said st q kind lent = answer st q (say st kind q) true (over (st .feeder) (saying st kind q) lent)
 
 -- a message is received
 unfoldable pub received : Start → Queue → Message → List ℕ → Answer Queue
-received st q m lent = done st q (accept st q m) (acks m) (cond (acks m) (over (st .feeder) (saying st 3 (put stamp m q)) lent) lent)
+received st q m lent = answer st q (accept st q m) (acks m) (cond (acks m) (over (st .feeder) (saying st 3 (put stamp m q)) lent) lent)
 
 abbrev pub receiveRows : Start → Queue → List ℕ → ℕ → List Row
 receiveRows st q s n = receiveTests (st .posts) (st .own) (st .feeder) (clock q) (λ r. last r q) (λ r. many (by r) (waiting st q)) s n

@@ -54,22 +54,22 @@ abbrev pub offered : Line → ℕ → List Message → Made
 offered L q [] = none
 offered L q (m ∷ ms) = at-post q (receive-call (frame (L .feeder) m) buffer)
 
-unfoldable pub made : Line → Feeder → Act → Made
-made L s (takeAt p) = cond (ltb p (L .posts)) (at-post p (take-call buffer)) none
-made L s (returnAt p) = cond (ltb p (L .posts)) (at-post p (return-call buffer)) none
-made L s (deliver p q) = cond (ltb p (L .posts) && (ltb q (L .posts) && not (eqb p q))) (offered L q (pending s p q)) none
+unfoldable pub comesTo : Line → Feeder → Act → Made
+comesTo L s (takeAt p) = cond (ltb p (L .posts)) (at-post p (take-call buffer)) none
+comesTo L s (returnAt p) = cond (ltb p (L .posts)) (at-post p (return-call buffer)) none
+comesTo L s (deliver p q) = cond (ltb p (L .posts) && (ltb q (L .posts) && not (eqb p q))) (offered L q (pending s p q)) none
 
 -- post p has the queue q, the others theirs
 abbrev pub with-queue : Feeder → ℕ → Queue → Feeder
 with-queue s p q r = cond (eqb r p) q (s r)
 
-abbrev pub after : Line → Feeder → Made → Feeder
-after L s none = s
-after L s (at-post p c) = with-queue s p (onQueue (start L p) (s p) c .next)
+abbrev pub afterMade : Line → Feeder → Made → Feeder
+afterMade L s none = s
+afterMade L s (at-post p c) = with-queue s p (onQueue (start L p) (s p) c .next)
 
 unfoldable pub run : Line → Feeder → List Act → Feeder
 run L s [] = s
-run L s (a ∷ acts) = run L (after L s (made L s a)) acts
+run L s (a ∷ acts) = run L (afterMade L s (comesTo L s a)) acts
 
 -- over all posts: returns sent, takes granted, posts in phase 3
 unfoldable pub returnsSent : Line → Feeder → ℕ

@@ -4,7 +4,7 @@ use Prim.Native.Nat.{ℕ}
 use mathlib.Core.Path.{ap₂}
 use native.Mathlib.Omega.{arith}
 use Rattle.bench.specs.Text.{lastLine}
-use Rattle.bench.specs.Bench.{lastOf}
+use Rattle.bench.specs.Bench.{closing}
 use Rattle.bench.proofs.Putting.{spelled, last-few}
 use Rattle.bench.proofs.last_line.Statement.{statement}
 use Rattle.bench.proofs.last_line.Tie as tie
@@ -22,7 +22,7 @@ same-length : tie.Need-same-length
 same-length c = search needs
 
 returns : tie.Need-returns
-unfolding lastOf
+unfolding closing
 returns c =
     let a = c .before .before .before .before .before .before .before .before .args in
     let p = c .before .before .last .ensures in (
