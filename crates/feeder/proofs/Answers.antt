@@ -12,7 +12,7 @@ use Rattle.frame.specs.declared.Message.{Message}
 use Rattle.frame.specs.Message.{msg, counted, lastCounter, stamp}
 use Rattle.frame.specs.Frame.{over, fieldsOf}
 use Rattle.frame.specs.Table.{takeTests, returnTests, receiveTests}
-use Rattle.frame.proofs.Passing.{take-passed, return-passed}
+use Rattle.frame.proofs.Passing.{own-passed}
 use Rattle.queue.specs.Queue.{Start, Queue, clock, phase}
 use Rattle.queue.specs.Replies.{take-call, return-call, receive-call, told, Answer, refused}
 use Rattle.queue.specs.Calls.{saying, say, acks, accept, grantCame, receiveRows, answer, said, received, onQueue}
@@ -70,18 +70,18 @@ module _ (st : Start) (q : Queue) (k : Fitting st q) (s : T (sound (image st q))
   same-said kind ph lent e = same-done st q (say st kind q) _ true _ _ e (ap (λ (m : Message). over (st .feeder) m lent) (saying-is st kind q))
 
   pub take-same : (lent : List ℕ) → Same st (onRecord (image st q) (take-call lent)) (onQueue st q (take-call lent))
-  unfolding onRecord onQueue post.takeRows image
+  unfolding onRecord onQueue post.ownRows image
   take-same lent =
       let rows = takeTests (phase st q) (clock q) (length lent) in
-      same-unless st q lent (post.takeRows p (length lent)) rows _ _ (past-one (sound p) (refusal rows) s)
-      (λ z. let h = take-passed _ _ (length lent) z in same-said 1 1 lent (take-step st q k (rw (h .phase) tt) (h .clock)))
+      same-unless st q lent (post.ownRows 0 13 p (length lent)) rows _ _ (past-one (sound p) (refusal rows) s)
+      (λ z. let h = own-passed 0 13 _ _ (length lent) tt z in same-said 1 1 lent (take-step st q k (rw (h .phase) tt) (h .clock)))
 
   pub return-same : (lent : List ℕ) → Same st (onRecord (image st q) (return-call lent)) (onQueue st q (return-call lent))
-  unfolding onRecord onQueue post.returnRows image
+  unfolding onRecord onQueue post.ownRows image
   return-same lent =
       let rows = returnTests (phase st q) (clock q) (length lent) in
-      same-unless st q lent (post.returnRows p (length lent)) rows _ _ (past-one (sound p) (refusal rows) s)
-      (λ z. same-said 2 0 lent (return-step st q k (return-passed _ _ (length lent) z .clock)))
+      same-unless st q lent (post.ownRows 3 14 p (length lent)) rows _ _ (past-one (sound p) (refusal rows) s)
+      (λ z. same-said 2 0 lent (return-step st q k (own-passed 3 14 _ _ (length lent) tt z .clock)))
 
   -- ---- a message received
 

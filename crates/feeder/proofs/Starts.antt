@@ -36,7 +36,7 @@ started-fits st a =
     fitting-empty st (record { few = r .posts-high; mine = r .own-low })
 
 zero-refuses : (c : Call) → (onRecord (fresh 0 0 0 0) c .reply ≡ refusedOne c) × (onRecord (fresh 0 0 0 0) c .next ≡ fresh 0 0 0 0)
-unfolding onRecord post.takeRows post.returnRows post.receiveRows unless post.valued
+unfolding onRecord post.ownRows post.receiveRows unless post.valued
     post.missed sound numberRules inRange fresh
 zero-refuses (take-call lent) = (refl, refl)
 zero-refuses (return-call lent) = (refl, refl)

@@ -5,14 +5,15 @@ use mathlib.Core.List.{List}
 use Prim.Native.Nat.{ℕ, _≤_, _<_}
 use borrow.Author.Tests.{eqb-true, eqb-false, leb-false, ltb-false, not-false}
 use denote.Floats.{passes}
-use lib.Dec.{T, leb, eqb}
+use lib.Dec.{T, leb, ltb, eqb}
+use mir.Facts.{yes-and}
 use Rattle.laws.specs.Ladder.{refusal}
 use Rattle.laws.proofs.Tests.{or-off}
 use Rattle.laws.proofs.Ladders.{quiet}
 use Rattle.frame.specs.declared.Message.{Message}
 use Rattle.frame.specs.Message.{counted, known, lastCounter}
 use Rattle.frame.specs.Frame.{fieldsOf, formRows}
-use Rattle.frame.specs.Table.{takeTests, returnTests, senderTests, turnTests, receiveTests}
+use Rattle.frame.specs.Table.{ownTests, senderTests, turnTests, receiveTests}
 
 and-off : (a b : Bool) → a && b ≡ false → T a → b ≡ false
 and-off true b e t = e
@@ -24,17 +25,11 @@ pub record Speaks (now c n at : ℕ) : Type 0 where
   pub clock : c < lastCounter
   pub room : 12 ≤ n
 
-pub take-passed : (phase clock n : ℕ) → refusal (takeTests phase clock n) ≡ 0 → Speaks phase clock n 0
-unfolding takeTests
-take-passed phase clock n e =
-    let q = quiet (takeTests phase clock n) tt e in
-    record { phase = eqb-true phase 0 (not-false (eqb phase 0) (q .1 .0)); clock = leb-false lastCounter clock (q .1 .1 .0); room = ltb-false n 12 (q .0) }
-
-pub return-passed : (phase clock n : ℕ) → refusal (returnTests phase clock n) ≡ 0 → Speaks phase clock n 3
-unfolding returnTests
-return-passed phase clock n e =
-    let q = quiet (returnTests phase clock n) tt e in
-    record { phase = eqb-true phase 3 (not-false (eqb phase 3) (q .1 .0)); clock = leb-false lastCounter clock (q .1 .1 .0); room = ltb-false n 12 (q .0) }
+pub own-passed : (at other phase clock n : ℕ) → T (ltb 0 other) → refusal (ownTests at other phase clock n) ≡ 0 → Speaks phase clock n at
+unfolding ownTests
+own-passed at other phase clock n o e =
+    let q = quiet (ownTests at other phase clock n) (yes-and (ltb 0 other) _ o tt) e in
+    record { phase = eqb-true phase at (not-false (eqb phase at) (q .1 .0)); clock = leb-false lastCounter clock (q .1 .1 .0); room = ltb-false n 12 (q .0) }
 
 -- a message that has come in, from a sender with this last counter of whom so many wait
 pub record Comes (posts own c last waiting n : ℕ) (m : Message) : Type 0 where

@@ -5,12 +5,15 @@ use Rattle.frame.specs.declared.Message.{Message}
 use Rattle.frame.specs.Message.{counted, known, lastCounter}
 use Rattle.frame.specs.Frame.{fieldsOf, formRows}
 
--- an own take or return; n is the length of the lent buffer
-unfoldable pub takeTests : ℕ → ℕ → ℕ → List Row
-takeTests phase clock n = 2 when ltb n 12 ∷ 13 when not (eqb phase 0) ∷ 11 when leb lastCounter clock ∷ []
+-- an own message, which goes out in one phase alone; n is the length of the lent buffer
+unfoldable pub ownTests : ℕ → ℕ → ℕ → ℕ → ℕ → List Row
+ownTests at other phase clock n = 2 when ltb n 12 ∷ other when not (eqb phase at) ∷ 11 when leb lastCounter clock ∷ []
 
-unfoldable pub returnTests : ℕ → ℕ → ℕ → List Row
-returnTests phase clock n = 2 when ltb n 12 ∷ 14 when not (eqb phase 3) ∷ 11 when leb lastCounter clock ∷ []
+abbrev pub takeTests : ℕ → ℕ → ℕ → List Row
+takeTests phase clock n = ownTests 0 13 phase clock n
+
+abbrev pub returnTests : ℕ → ℕ → ℕ → List Row
+returnTests phase clock n = ownTests 3 14 phase clock n
 
 -- a message that comes to post own of so many posts
 unfoldable pub senderTests : ℕ → ℕ → Message → List Row

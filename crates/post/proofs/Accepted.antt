@@ -4,17 +4,17 @@ use mathlib.Core.Bool.{Bool, true, false, not, cond}
 use mathlib.Core.List.{List}
 use Prim.Native.Nat.{ℕ}
 use native.Mathlib.Omega.{arith}
-use lib.Dec.{T}
+use lib.Dec.{T, ltb}
 use Rattle.laws.specs.Ladder.{refusal}
 use Rattle.laws.specs.Lists.{many}
 use Rattle.frame.specs.declared.Message.{Message}
 use Rattle.frame.specs.Message.{by}
 use Rattle.frame.specs.Frame.{fieldsOf}
-use Rattle.frame.proofs.Passing.{Speaks, take-passed, return-passed, Comes, receive-passed}
+use Rattle.frame.proofs.Passing.{Speaks, own-passed, Comes, receive-passed}
 use Rattle.post.specs.declared.Post.{Post}
 use Rattle.post.specs.Record.{lastOf, waitingOf}
 use Rattle.post.specs.Sound.{sound}
-use Rattle.post.specs.Calls.{takeRows, returnRows, receiveRows}
+use Rattle.post.specs.Calls.{ownRows, receiveRows}
 
 -- the record is sound, and no later row refuses
 past-one : (t : Bool) (n : ℕ) → cond (not t) 1 n ≡ 0 → T t × (n ≡ 0)
@@ -25,13 +25,9 @@ past-one false n e = absurd (omega arith)
 abbrev pub Spoken : Post → ℕ → ℕ → Type 0
 Spoken p n at = T (sound p) × Speaks (p .phase) (p .clock) n at
 
-pub take-speaks : (p : Post) (n : ℕ) → refusal (takeRows p n) ≡ 0 → Spoken p n 0
-unfolding takeRows
-take-speaks p n e = let q = past-one (sound p) _ e in (q .0, take-passed _ _ n (q .1))
-
-pub return-speaks : (p : Post) (n : ℕ) → refusal (returnRows p n) ≡ 0 → Spoken p n 3
-unfolding returnRows
-return-speaks p n e = let q = past-one (sound p) _ e in (q .0, return-passed _ _ n (q .1))
+pub speaks : (at other : ℕ) (p : Post) (n : ℕ) → T (ltb 0 other) → refusal (ownRows at other p n) ≡ 0 → Spoken p n at
+unfolding ownRows
+speaks at other p n o e = let q = past-one (sound p) _ e in (q .0, own-passed at other _ _ n o (q .1))
 
 -- the message of a received frame
 abbrev pub Accepted : Post → ℕ → Message → Type 0

@@ -5,7 +5,7 @@ use mathlib.Core.List.{List}
 use Prim.Native.Nat.{ℕ, _+_, _-_, _≤_}
 use native.Mathlib.Omega.{arith}
 use borrow.Author.Tests.{eq-eqb, ne-eqb, le-ltb}
-use lib.Dec.{T, eqb}
+use lib.Dec.{T, ltb, eqb}
 use lib.Ieee.Bits.{is-true}
 use lib.ListN.{length, replicate}
 use lib.Seq.{drop-at, set-set}
@@ -20,10 +20,11 @@ use Rattle.post.specs.declared.Post.{Post}
 use Rattle.post.specs.declared.Answer.{Answer}
 use Rattle.post.specs.Record.{waitingOf, remade}
 use Rattle.post.specs.Settle.{settle}
-use Rattle.post.specs.Calls.{spoken, joined, noted, Outcome, Gives, answer, refused, stays, writing, acknowledged, heardFrom}
+use Rattle.post.specs.Calls.{spoken, joined, noted, ownRows, Outcome, Gives, answer, refused, stays, writing, said, acknowledged, heardFrom}
 use Rattle.post.specs.Inside.{Countable}
 use Rattle.post.proofs.SoundFacts.{sound-has}
 use Rattle.post.proofs.Shape.{Kept, length-waiting}
+use Rattle.post.proofs.Accepted.{speaks}
 use Rattle.post.proofs.Values.{counts-small}
 use Rattle.post.proofs.Remaking.{has-room}
 
@@ -99,6 +100,19 @@ writes p p′ m e a w kind sender counter room = record {
 pub joined-own : (p : Post) (kind phase : ℕ) → joined p (msg kind (p .own) (p .clock + 1)) (p .clock + 1) phase 0 ≡ spoken p kind phase
 unfolding joined spoken
 joined-own p kind phase = ap (λ (l : List ℕ). remade p (p .clock + 1) l (put stamp (msg kind (p .own) (p .clock + 1)) (waitingOf p)) phase 0) (set-set (p .last) (p .own) (p .clock + 1) (p .clock + 1))
+
+-- an own message that no row refuses
+pub is-said : (p : Post) (at other kind phase : ℕ) → T (ltb 0 other) → T (known kind) → {n k : ℕ} {next : Post} {r : Answer} {lent new : List ℕ}
+    → n ≡ refusal (ownRows at other p (length lent)) → n ≡ 0 → next ≡ joined p (msg kind (p .own) (p .clock + 1)) (p .clock + 1) phase 0
+    → r ≡ answer (p .phase) (settle next) true → Written lent new (p .feeder) (msg kind (p .own) (p .clock + 1)) k
+    → Gives (unless (ownRows at other p (length lent)) (stays p lent) (said p kind phase lent)) r new
+is-said p at other kind phase o known-kind {lent = lent} e z j a w =
+    let h = speaks at other p (length lent) o (sym e ∙ z) in
+    let s = sound-has p (h .0) in
+    let own = s .own in
+    let few = s .posts-high in
+    is-done p (ownRows at other p (length lent)) e lent (said p kind phase lent) z
+    (writes p (spoken p kind phase) _ (j ∙ joined-own p kind phase) a w known-kind (omega arith) (omega arith) (h .1 .room))
 
 module _ (p : Post) (m : Message) (lent : List ℕ) where
   pub is-heard : counted m ≡ true → {r : Answer} {new : List ℕ} → Gives (acknowledged p m lent) r new → Gives (heardFrom p m lent) r new

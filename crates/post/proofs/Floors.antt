@@ -17,7 +17,7 @@ use Rattle.frame.specs.Frame.{fieldsOf}
 use Rattle.post.specs.declared.Post.{Post}
 use Rattle.post.specs.Record.{lastOf, floor, remade}
 use Rattle.post.specs.Settle.{settle}
-use Rattle.post.specs.Calls.{spoken, ackClock, came, noted, takeRows, returnRows, receiveRows, Outcome, stays, said, took, gaveBack, heardFrom, received}
+use Rattle.post.specs.Calls.{spoken, ackClock, came, noted, ownRows, receiveRows, Outcome, stays, said, took, gaveBack, heardFrom, received}
 use Rattle.post.proofs.Accepted.{accepted}
 
 pub heard-floor : (p : Post) (m : Message) → stamp m ≤ 2 ^ 40
@@ -50,10 +50,10 @@ said-floor p kind phase rows lent =
     (λ n z. omega arith)
 
 pub took-floor : (p : Post) (lent : List ℕ) → floor p ≤ floor (took p lent .gives .post)
-took-floor p lent = said-floor p 1 1 (takeRows p (length lent)) lent
+took-floor p lent = said-floor p 1 1 (ownRows 0 13 p (length lent)) lent
 
 pub gaveBack-floor : (p : Post) (lent : List ℕ) → floor p ≤ floor (gaveBack p lent .gives .post)
-gaveBack-floor p lent = said-floor p 2 0 (returnRows p (length lent)) lent
+gaveBack-floor p lent = said-floor p 2 0 (ownRows 3 14 p (length lent)) lent
 
 pub received-floor : (p : Post) (s lent : List ℕ) → floor p ≤ floor (received p s lent .gives .post)
 unfolding heardFrom came noted remade

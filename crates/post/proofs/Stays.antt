@@ -21,11 +21,11 @@ use Rattle.post.specs.declared.Post.{Post}
 use Rattle.post.specs.Record.{waitingOf}
 use Rattle.post.specs.Sound.{endKind}
 use Rattle.post.specs.Settle.{settle}
-use Rattle.post.specs.Calls.{spoken, ackClock, came, noted, takeRows, returnRows, receiveRows, Outcome, stays, took, gaveBack, heardFrom, received}
+use Rattle.post.specs.Calls.{spoken, ackClock, came, noted, ownRows, receiveRows, Outcome, stays, took, gaveBack, heardFrom, received}
 use Rattle.post.proofs.Shape.{Kept}
 use Rattle.post.proofs.SoundFacts.{Sound, sound-has}
 use Rattle.post.proofs.Above.{waiting-below}
-use Rattle.post.proofs.Accepted.{Spoken, take-speaks, return-speaks, Accepted, accepted}
+use Rattle.post.proofs.Accepted.{Spoken, speaks, Accepted, accepted}
 use Rattle.post.proofs.Standing.{idle, asked, numbered, holding, Stands, standing}
 use Rattle.post.proofs.OwnMessages.{endKind-put-other, endKind-put-last}
 use Rattle.post.proofs.Raised.{Raised, raised-none, raised-more}
@@ -121,14 +121,14 @@ module _ (p : Post) (k : Kept p) (s : Sound p) where
 module _ (p : Post) (k : Kept p) where
   pub took-kept : (lent : List ℕ) → Kept (took p lent .gives .post)
   took-kept lent =
-      unless-both (λ (o : Outcome). Kept (o .gives .post)) (takeRows p (length lent)) (stays p lent) _
-      (λ z. take-kept p k (sound-has p (k .sound)) (take-speaks p (length lent) z))
+      unless-both (λ (o : Outcome). Kept (o .gives .post)) (ownRows 0 13 p (length lent)) (stays p lent) _
+      (λ z. take-kept p k (sound-has p (k .sound)) (speaks 0 13 p (length lent) tt z))
       (λ n z. k)
 
   pub gaveBack-kept : (lent : List ℕ) → Kept (gaveBack p lent .gives .post)
   gaveBack-kept lent =
-      unless-both (λ (o : Outcome). Kept (o .gives .post)) (returnRows p (length lent)) (stays p lent) _
-      (λ z. return-kept p k (sound-has p (k .sound)) (return-speaks p (length lent) z))
+      unless-both (λ (o : Outcome). Kept (o .gives .post)) (ownRows 3 14 p (length lent)) (stays p lent) _
+      (λ z. return-kept p k (sound-has p (k .sound)) (speaks 3 14 p (length lent) tt z))
       (λ n z. k)
 
   pub received-kept : (t lent : List ℕ) → (fieldsOf t .message) .counter ≤ lastCounter → Kept (received p t lent .gives .post)

@@ -7,18 +7,17 @@ use crate::slots::Seen;
 use frame::Message;
 ghost use mathlib.Core.Path.{_≡_};
 ghost use mathlib.Core.Bool.{true, cond, not, _&&_};
-ghost use mathlib.Core.List.{[], _∷_};
 ghost use Prim.Native.Nat.{_≤_, _<_, _+_, max};
-ghost use lib.Dec.{eqb, ltb, leb, T};
+ghost use lib.Dec.{eqb, T};
 ghost use lib.ListN.{length};
-ghost use Rattle.laws.specs.Ladder.{_when_, refusal, every};
+ghost use Rattle.laws.specs.Ladder.{refusal, every};
 ghost use Rattle.frame.specs.Message.{lastCounter, stampOf};
 ghost use Rattle.frame.specs.Table.{senderTests, turnTests};
 ghost use Rattle.post.specs.Record.{lastOf, fresh};
 ghost use Rattle.post.specs.Sound.{numberRules, slotRules, countRules, sound};
 ghost use Rattle.post.specs.Settle.{phaseAfter, settle};
 ghost use Rattle.post.specs.Inside.{Countable, Checked};
-ghost use Rattle.post.specs.Calls.{started, joined, noted, receiveRows, Gives, answer, refused, took, gaveBack, acknowledged, received, valued, missed};
+ghost use Rattle.post.specs.Calls.{started, joined, noted, ownRows, receiveRows, Gives, answer, refused, took, gaveBack, acknowledged, received, valued, missed};
 
 // Document 01's record, its fields in 01's order and widths.
 pub struct Post {
@@ -328,7 +327,7 @@ impl Post {
 
     // An own message goes out in one phase alone; in another the number is `other`.
     fn own_number(self, phase: u8, other: u8, len: usize) -> u8
-        ensures { λ r. ⌜ r ≡ refusal (1 when not (sound self) ∷ 2 when ltb len 12 ∷ other when not (eqb (self .phase) phase) ∷ 11 when leb lastCounter (self .clock) ∷ []) ⌝ }
+        ensures { λ r. ⌜ r ≡ refusal (ownRows phase other self len) ⌝ }
     {
         if !self.sound() {
             return 1;

@@ -12,7 +12,7 @@ use Rattle.laws.proofs.RefusalLaws.{unless-both}
 use Rattle.frame.specs.Message.{lastCounter, by}
 use Rattle.frame.specs.Frame.{fieldsOf}
 use Rattle.frame.specs.Table.{takeTests, returnTests}
-use Rattle.frame.proofs.Passing.{take-passed, return-passed, receive-passed}
+use Rattle.frame.proofs.Passing.{own-passed, receive-passed}
 use Rattle.queue.specs.Queue.{Start, Queue, clock, last, waiting, phase}
 use Rattle.queue.specs.Replies.{Call, take-call, return-call, receive-call, value-call, missing-call, Answer, after}
 use Rattle.queue.specs.Calls.{say, acks, accept, receiveRows, said, received, onQueue}
@@ -44,11 +44,11 @@ module _ (st : Start) (q : Queue) where
   unfolding onQueue said received
   change (take-call lent) =
       unless-both {A = Answer Queue} (λ a. Change st q (take-call lent) (a .next)) (takeTests (phase st q) (clock q) (length lent)) _ _
-      (λ z. let h = take-passed _ _ (length lent) z in took (rw (h .phase) tt) (h .clock))
+      (λ z. let h = own-passed 0 13 _ _ (length lent) tt z in took (rw (h .phase) tt) (h .clock))
       (λ n d. unchanged)
   change (return-call lent) =
       unless-both {A = Answer Queue} (λ a. Change st q (return-call lent) (a .next)) (returnTests (phase st q) (clock q) (length lent)) _ _
-      (λ z. let h = return-passed _ _ (length lent) z in gave-back (rw (h .phase) tt) (h .clock))
+      (λ z. let h = own-passed 3 14 _ _ (length lent) tt z in gave-back (rw (h .phase) tt) (h .clock))
       (λ n d. unchanged)
   change (receive-call s lent) =
       unless-both {A = Answer Queue} (λ a. Change st q (receive-call s lent) (a .next)) (receiveRows st q s (length lent)) _ _
