@@ -129,12 +129,7 @@ module _ (st : Start) (q : Queue) (k : Fitting st q) where
       let w = image-waiting st q in
       let last-is = image-last st q g in
       sound-passes (image st q) (record {
-        posts-low = r .posts-low;
-        posts-high = r .posts-high;
-        own = r .own-low;
-        places-low = r .places-low;
-        places-high = r .places-high;
-        feeder = r .feeder-high;
+        range = r;
         phase = phase-small st q;
         waits = waits-few st q k;
         absent = λ x l h. last-is x ∙ last-none st q g x h;

@@ -37,7 +37,7 @@ module _ (p : Post) (k : Kept p) where
       let s = sound-has p (k .sound) in
       let c = counts-small p s (k .width) in
       record {
-        posts = s .posts-high;
+        posts = s .range .posts-high;
         waits = h;
         blanks = drop-at ms (replicate (62 - length ms) blank) (length ms) refl;
         takes = omega arith;
@@ -109,8 +109,8 @@ pub is-said : (p : Post) (at other kind phase : ℕ) → T (ltb 0 other) → T (
 is-said p at other kind phase o known-kind {lent = lent} e z j a w =
     let h = speaks at other p (length lent) o (sym e ∙ z) in
     let s = sound-has p (h .0) in
-    let own = s .own in
-    let few = s .posts-high in
+    let own = s .range .own-low in
+    let few = s .range .posts-high in
     is-done p (ownRows at other p (length lent)) e lent (said p kind phase lent) z
     (writes p (spoken p kind phase) _ (j ∙ joined-own p kind phase) a w known-kind (omega arith) (omega arith) (h .1 .room))
 

@@ -84,7 +84,7 @@ module _ (p : Post) (s : Sound p) where
       count : (k : ℕ) → k < p .posts → (k ≡ p .own → ⊥) → f k ≡ 0 → p .waits ≤ 58
       count k l d z =
           let a = sumTo-point (p .posts) k 4 f l in
-          let b = sumTo-point (p .posts) (p .own) 2 (λ q. cond (eqb k q) 4 0 + f q) (s .own) in
+          let b = sumTo-point (p .posts) (p .own) 2 (λ q. cond (eqb k q) 4 0 + f q) (s .range .own-low) in
           let c = sumTo-most (p .posts) 4 (λ q. cond (eqb (p .own) q) 2 0 + (cond (eqb k q) 4 0 + f q)) each in
           let e = length-parts (λ m. m .sender) (p .posts) (waitingOf p) (λ m i. s .fair m i .sender) in
           let g = length-waiting p s h in

@@ -35,12 +35,7 @@ module _ (p : Post) (k : Kept p) (s : Sound p) (c d : ℕ) (last : List ℕ) (up
       → Ready (remade p c last ms phase order) ms
   unfolding remade
   ready ms long more fair rising few stands = record {
-    posts-low = s .posts-low;
-    posts-high = s .posts-high;
-    own = s .own;
-    places-low = s .places-low;
-    places-high = s .places-high;
-    feeder = s .feeder;
+    range = s .range;
     long = long;
     absent = up .absent;
     clock = up .clock;

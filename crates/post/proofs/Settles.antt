@@ -18,6 +18,7 @@ use Rattle.post.specs.declared.Post.{Post}
 use Rattle.post.specs.Record.{lastOf, waitingOf, floor}
 use Rattle.post.specs.Sound.{ownFew}
 use Rattle.post.specs.Settle.{orderAfter, settle}
+use Rattle.post.proofs.Ranges.{Range}
 use Rattle.post.proofs.SoundFacts.{Fair, Sound}
 use Rattle.post.proofs.Shape.{Shape, Width}
 use Rattle.post.proofs.Floors.{heard-floor, floor-settle}
@@ -26,12 +27,7 @@ use Rattle.post.proofs.StandsOn.{stands-on}
 
 -- what waits need not be above the floor yet, nor be none where the post is alone
 pub record Ready (p : Post) (ms : List Message) : Type 0 where
-  pub posts-low : 1 ≤ p .posts
-  pub posts-high : p .posts ≤ 16
-  pub own : p .own < p .posts
-  pub places-low : 1 ≤ p .places
-  pub places-high : p .places ≤ 16
-  pub feeder : p .feeder ≤ 255
+  pub range : Range (p .posts) (p .own) (p .feeder) (p .places)
   pub long : length ms ≤ 62
   pub absent : (q : ℕ) → q < 16 → p .posts ≤ q → lastOf p q ≡ 0
   pub clock : (q : ℕ) → q < 16 → lastOf p q ≤ p .clock
@@ -98,12 +94,7 @@ module _ (p : Post) (d : Ready p (waitingOf p)) where
   pub settles : Sound (settle p)
   unfolding settle ownFew
   settles = record {
-    posts-low = d .posts-low;
-    posts-high = d .posts-high;
-    own = d .own;
-    places-low = d .places-low;
-    places-high = d .places-high;
-    feeder = d .feeder;
+    range = d .range;
     phase = phase-fits _ _ _ _ _ _ _ next-stands;
     waits = let a = lengths in omega arith;
     absent = d .absent;

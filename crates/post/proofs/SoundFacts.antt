@@ -19,7 +19,7 @@ use Rattle.frame.specs.Message.{msg, blank, counted, stamp, by}
 use Rattle.post.specs.declared.Post.{Post}
 use Rattle.post.specs.Record.{lastOf, waitingOf, floor}
 use Rattle.post.specs.Sound.{absentSilent, clockAbove, fair, noneAlone, isBlank, few, ownFew, sumFits, orderFits, numberRules, slotRules, countRules, sound}
-use Rattle.post.proofs.Ranges.{range-is}
+use Rattle.post.proofs.Ranges.{Range, range-is}
 
 pub record Fair (posts : ℕ) (last : List ℕ) (m : Message) : Type 0 where
   pub sender : m .sender < posts
@@ -28,12 +28,7 @@ pub record Fair (posts : ℕ) (last : List ℕ) (m : Message) : Type 0 where
   pub high : m .counter ≤ getD last (m .sender) 0
 
 pub record Sound (p : Post) : Type 0 where
-  pub posts-low : 1 ≤ p .posts
-  pub posts-high : p .posts ≤ 16
-  pub own : p .own < p .posts
-  pub places-low : 1 ≤ p .places
-  pub places-high : p .places ≤ 16
-  pub feeder : p .feeder ≤ 255
+  pub range : Range (p .posts) (p .own) (p .feeder) (p .places)
   pub phase : p .phase ≤ 3
   pub waits : p .waits ≤ 62
   pub absent : (q : ℕ) → q < 16 → p .posts ≤ q → lastOf p q ≡ 0
@@ -90,14 +85,8 @@ sound-has p t =
     let s = and-r (every (numberRules p)) _ t in
     let w = each (slotRules p) (and-l (every (slotRules p)) _ s) in
     let c = each (countRules p) (and-r (every (slotRules p)) _ s) in
-    let r = range-is (p .posts) (p .own) (p .feeder) (p .places) (n .0) in
     record {
-      posts-low = r .posts-low;
-      posts-high = r .posts-high;
-      own = r .own-low;
-      places-low = r .places-low;
-      places-high = r .places-high;
-      feeder = r .feeder-high;
+      range = range-is (p .posts) (p .own) (p .feeder) (p .places) (n .0);
       phase = leb→le (p .phase) 3 (n .1 .0);
       waits = leb→le (p .waits) 62 (n .1 .1 .0);
       absent = λ q l h. ⊎-elim (λ y. absurd (let z = ltb→lt q (p .posts) y in omega arith)) (λ y. eqb→eq (lastOf p q) 0 y)

@@ -41,12 +41,12 @@ module _ (p : Post) (s : Sound p) where
   number-rules =
       all-of (numberRules p) (
         all-of (leb 1 (p .posts) ∷ leb (p .posts) 16 ∷ ltb (p .own) (p .posts) ∷ leb 1 (p .places) ∷ leb (p .places) 16 ∷ leb (p .feeder) 255 ∷ []) (
-          le→leb 1 (p .posts) (s .posts-low),
+          le→leb 1 (p .posts) (s .range .posts-low),
           (
-            le→leb (p .posts) 16 (s .posts-high),
+            le→leb (p .posts) 16 (s .range .posts-high),
             (
-              lt→ltb (p .own) (p .posts) (s .own),
-              (le→leb 1 (p .places) (s .places-low), (le→leb (p .places) 16 (s .places-high), (le→leb (p .feeder) 255 (s .feeder), tt))),
+              lt→ltb (p .own) (p .posts) (s .range .own-low),
+              (le→leb 1 (p .places) (s .range .places-low), (le→leb (p .places) 16 (s .range .places-high), (le→leb (p .feeder) 255 (s .range .feeder-high), tt))),
             ),
           ),
         ),

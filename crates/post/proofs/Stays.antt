@@ -43,9 +43,9 @@ module _ (p : Post) (k : Kept p) (s : Sound p) where
         let b = s .clock (p .own) (omega arith) in
         let e = getD-set-same (p .last) (p .own) (p .clock + 1) 0 (omega arith) in
         kept-put p k s (p .clock + 1) 1 (set (p .last) (p .own) (p .clock + 1))
-        (raised-more p s (p .last) (p .clock) 0 (p .own) (p .clock + 1) (p .clock + 1) (raised-none p s (k .shape)) (s .own) (omega arith) (omega arith) (omega arith))
+        (raised-more p s (p .last) (p .clock) 0 (p .own) (p .clock + 1) (p .clock + 1) (raised-none p s (k .shape)) (s .range .own-low) (omega arith) (omega arith) (omega arith))
         (omega arith) phase 0 said (omega arith)
-        (record { sender = s .own; kind = c; low = omega arith; high = omega arith })
+        (record { sender = s .range .own-low; kind = c; low = omega arith; high = omega arith })
         (omega arith) (λ n. absurd (n refl))
 
     said-end : endKind (p .own) 0 (put stamp said (waitingOf p)) ≡ kind
@@ -101,7 +101,7 @@ module _ (p : Post) (k : Kept p) (s : Sound p) where
         let v = a .counter c in
         let old = heard-up .clock (p .own) (omega arith) in
         let ls = set (p .last) (m .sender) (m .counter) in
-        let up = raised-more p s ls (max (p .clock) (m .counter)) 1 (p .own) (ackClock p m) (ackClock p m) heard-up (s .own) (omega arith) (omega arith) (omega arith) in
+        let up = raised-more p s ls (max (p .clock) (m .counter)) 1 (p .own) (ackClock p m) (ackClock p m) heard-up (s .range .own-low) (omega arith) (omega arith) (omega arith) in
         let e1 = getD-set-other ls (p .own) (m .sender) (ackClock p m) 0 (a .other) in
         let e2 = getD-set-same (p .last) (m .sender) (m .counter) 0 (omega arith) in
         kept-put p k s (ackClock p m) 2 (set ls (p .own) (ackClock p m)) up (omega arith) (p .phase) (p .order) m (omega arith)

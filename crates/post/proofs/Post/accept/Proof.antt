@@ -22,8 +22,8 @@ returns c =
     let b = c .before .before .before .before .before .before .before .before in
     let p = b .args .self in
     let s = sound-has _ (b .pre .0) in
-    let o = s .own in
-    let h = s .posts-high in
+    let o = s .range .own-low in
+    let h = s .range .posts-high in
     rw (c .before .before .before .before .before .before .larger .ensures) at
     (writes p _ _ (c .before .before .before .before .before .joined .ensures) (c .before .before .before .before .settled .ensures) (c .before .before .write .ensures) tt (omega arith) (omega arith) (b .pre .3))
 

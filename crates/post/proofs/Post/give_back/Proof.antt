@@ -27,7 +27,7 @@ add-t9 : tie.Need-add-t9
 add-t9 c = let s = passed (c .before) .1 .clock in search needs
 
 joined-requires : tie.Need-joined-requires
-joined-requires c κs = let k = kept (c .before) in (k .sound, sound-has _ (k .sound) .own)
+joined-requires c κs = let k = kept (c .before) in (k .sound, sound-has _ (k .sound) .range .own-low)
 
 settled-requires : tie.Need-settled-requires
 settled-requires c κs = subst Countable (sym (c .joined .ensures)) (joined-countable _ (kept (c .before .before)) _ _ _ _)

@@ -32,8 +32,8 @@ loop-holds : tie.Need-loop-holds Inv-loop μ-loop
 loop-holds c =
     let a = c .before .before .args .t1 in
     let s = sound-has _ (c .before .before .pre .0) in
-    let o = s .own in
-    let h = s .posts-high in
+    let o = s .range .own-low in
+    let h = s .range .posts-high in
     let f = c .before .before .pre .1 in
     (refl, hole _ _, none-above _ (a .slots) (a .waits), has-room _ (kept (c .before .before)), omega arith, omega arith)
 

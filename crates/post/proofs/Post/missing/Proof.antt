@@ -20,7 +20,7 @@ own-stamp-requires : tie.Need-own-stamp-requires
 own-stamp-requires c κs = sound-has _ (passes _ (sym (c .before .before .before .before .before .before .sound .ensures) ∙ not-false _ (c .before .before .before .before .before .if1 .left))) .waits
 
 late-requires : tie.Need-late-requires
-late-requires c κs = sound-has _ (passes _ (sym (c .before .before .before .before .before .before .before .before .before .sound .ensures) ∙ not-false _ (c .before .before .before .before .before .before .before .before .if1 .left))) .posts-high
+late-requires c κs = sound-has _ (passes _ (sym (c .before .before .before .before .before .before .before .before .before .sound .ensures) ∙ not-false _ (c .before .before .before .before .before .before .before .before .if1 .left))) .range .posts-high
 
 returns-3 : tie.Need-returns-3
 returns-3 c = some-missed _ (sym (c .before .before .before .before .before .before .before .before .before .before .sound .ensures) ∙ not-false _ (c .before .before .before .before .before .before .before .before .before .if1 .left)) (c .before .before .before .before .before .before .before .if2 .left) _ _ (c .before .before .before .own-stamp .ensures) (c .late .ensures)

@@ -14,7 +14,7 @@ kept : (c : tie.Start) → Kept (c .args .t1)
 kept c = record { sound = c .pre .0; shape = record { last = search needs; slots = search (length-mapped, needs) }; width = search needs }
 
 element-write-self : tie.Need-element-write-self
-element-write-self c = let b = sound-has _ (c .before .before .pre .0) .posts-high in let m = c .before .before .pre .1 in search needs
+element-write-self c = let b = sound-has _ (c .before .before .pre .0) .range .posts-high in let m = c .before .before .pre .1 in search needs
 
 returns : tie.Need-returns
 unfolding noted

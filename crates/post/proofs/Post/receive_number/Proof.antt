@@ -23,7 +23,7 @@ known : (c : tie.Else5) → let m = c .before .before .before .before .before .b
 known c =
     let t = passes _ (sym (c .before .before .before .before .before .before .before .before .before .before .before .before .checked .ensures .holds) ∙ not-false _ (c .before .before .before .before .before .before .before .before .before .before .if1 .left)) in
     let l = on-feeder _ _ _ (sym (c .before .before .before .before .sender-number .ensures) ∙ c .if5 .left) in
-    let h = sound-has _ t .posts-high in
+    let h = sound-has _ t .range .posts-high in
     (t, l, omega arith)
 
 returns : tie.Need-returns

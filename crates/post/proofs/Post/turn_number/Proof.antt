@@ -10,7 +10,7 @@ use Rattle.post.proofs.Post.turn_number.Statement.{statement}
 use Rattle.post.proofs.Post.turn_number.Tie as tie
 
 array-read-if1 : tie.Need-array-read-if1
-array-read-if1 c = let h = sound-has _ (c .before .before .pre .0) .posts-high in let m = c .before .before .pre .1 in search needs
+array-read-if1 c = let h = sound-has _ (c .before .before .pre .0) .range .posts-high in let m = c .before .before .pre .1 in search needs
 
 returns : tie.Need-returns
 unfolding turnTests

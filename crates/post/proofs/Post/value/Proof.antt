@@ -19,7 +19,7 @@ use Rattle.post.proofs.Post.value.Statement.{statement}
 use Rattle.post.proofs.Post.value.Tie as tie
 
 fits : (c : tie.Start) → T (sound (c .args .self)) → (c .args .self .places + c .args .self .returns < 2 ^ 63) × (c .args .self .takes < 2 ^ 63)
-fits c t = let s = sound-has (c .args .self) t in let h = counts-small (c .args .self) s (search needs) in let k = s .places-high in (omega arith, omega arith)
+fits c t = let s = sound-has (c .args .self) t in let h = counts-small (c .args .self) s (search needs) in let k = s .range .places-high in (omega arith, omega arith)
 
 returns : tie.Need-returns
 unfolding valued
