@@ -1,17 +1,10 @@
 -- The bench, fed byte by byte: what each byte does and writes, and what is written at the end of the input.
-use Rattle.laws.specs.Words.{Bool, true, false, not, cond, _&&_, _||_, List, [], _∷_, _++_, _≡_, ℕ, _+_, _-_, _≤_, leb, ltb, eqb, length}
 use lib.Seq.{sets}
-use Rattle.laws.specs.Lists.{many}
+use Rattle.laws.specs.{Words.{Bool, true, false, not, cond, _&&_, _||_, List, [], _∷_, _++_, _≡_, ℕ, _+_, _-_, _≤_, leb, ltb, eqb, length}, Lists.{many}}
 use Rattle.post.specs.declared.Post.{Post}
-use Rattle.bench.specs.declared.Night.{Night}
-use Rattle.bench.specs.declared.Bench.{Bench}
-use Rattle.bench.specs.declared.Turned.{Turned}
-use Rattle.bench.specs.declared.Fed.{Fed}
-use Rattle.bench.specs.declared.Finished.{Finished}
-use Rattle.bench.specs.declared.lines.Command.the-variants.{Unknown}
-use Rattle.bench.specs.Text.{answerLine, badHeader, lastLine, Puts}
-use Rattle.bench.specs.Lines.{empty, pushed, kept, headerOf, commandOf}
-use Rattle.bench.specs.Night.{begun, ran}
+use Rattle.bench.specs.{declared.Night.{Night}, declared.Bench.{Bench}, declared.Turned.{Turned}, declared.Fed.{Fed}, declared.Finished.{Finished}}
+use Rattle.bench.specs.{declared.lines.Command.the-variants.{Unknown}, Text.{answerLine, badHeader, lastLine, Puts}}
+use Rattle.bench.specs.{Lines.{empty, pushed, kept, headerOf, commandOf}, Night.{begun, ran}}
 
 -- how many records are in phases lo to hi
 unfoldable pub inPhases : ℕ → ℕ → List Post → ℕ

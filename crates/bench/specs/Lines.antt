@@ -1,12 +1,8 @@
 -- Lines: the one being read, and which header or command a line is.
-use Rattle.laws.specs.Words.{Bool, false, not, cond, _&&_, List, _∷_, _++_, map, ℕ, _+_, ltb, eqb, take, replicate, set}
-use Rattle.laws.specs.Lists.{keep}
-use Rattle.bench.specs.declared.Line.{Line}
-use Rattle.bench.specs.declared.lines.Header.{Header}
-use Rattle.bench.specs.declared.lines.Command.{Command}
-use Rattle.bench.specs.declared.lines.Command.the-variants.{Take, Return, Deliver, Unknown}
+use Rattle.laws.specs.{Words.{Bool, false, not, cond, _&&_, List, _∷_, _++_, map, ℕ, _+_, ltb, eqb, take, replicate, set}, Lists.{keep}}
 use Rattle.laws.specs.Search.{first, same, from, pairs}
-use Rattle.bench.specs.Text.{decimal, text}
+use Rattle.bench.specs.{declared.Line.{Line}, declared.lines.Header.{Header}, declared.lines.Command.{Command}}
+use Rattle.bench.specs.{declared.lines.Command.the-variants.{Take, Return, Deliver, Unknown}, Text.{decimal, text}}
 
 -- ---- the line being read: its first 8 bytes
 

@@ -1,15 +1,9 @@
 -- A night: the records, the messages sent, and how far each post has read of each other's. What a command does to it.
-use Rattle.laws.specs.Words.{Bool, false, cond, _&&_, List, [], _∷_, map, ℕ, _+_, _*_, leb, ltb, eqb, getD, take, drop, replicate, set}
-use Rattle.frame.specs.declared.Message.{Message}
-use Rattle.frame.specs.Message.{blank, by}
-use Rattle.frame.specs.Frame.{fieldsOf, bytesAfter}
-use Rattle.post.specs.declared.Post.{Post}
-use Rattle.post.specs.Calls.{Outcome, started, took, gaveBack, received}
-use Rattle.bench.specs.declared.Night.{Night}
-use Rattle.bench.specs.declared.calls.Called.{Called}
-use Rattle.bench.specs.declared.lines.Command.{Command}
+use Rattle.laws.specs.{Words.{Bool, false, cond, _&&_, List, [], _∷_, map, ℕ, _+_, _*_, leb, ltb, eqb, getD, take, drop, replicate, set}, Search.{from}}
+use Rattle.frame.specs.{declared.Message.{Message}, Message.{blank, by}, Frame.{fieldsOf, bytesAfter}}
+use Rattle.post.specs.{declared.Post.{Post}, Calls.{Outcome, started, took, gaveBack, received}}
+use Rattle.bench.specs.{declared.Night.{Night}, declared.calls.Called.{Called}, declared.lines.Command.{Command}}
 use Rattle.bench.specs.declared.lines.Command.the-variants.{Take, Return, Deliver, Unknown}
-use Rattle.laws.specs.Search.{from}
 
 -- ---- calls on one post
 

@@ -1,12 +1,7 @@
 -- The whole output for a whole input, line by line.
 use Rattle.laws.specs.Words.{false, cond, List, [], _∷_, _++_, ℕ, _+_, ltb, eqb, length}
-use Rattle.bench.specs.declared.Night.{Night}
-use Rattle.bench.specs.declared.lines.Header.{Header}
-use Rattle.bench.specs.declared.lines.Command.the-variants.{Unknown}
-use Rattle.bench.specs.Text.{answerLine, badHeader}
-use Rattle.bench.specs.Lines.{headerOf, commandOf}
-use Rattle.bench.specs.Night.{begun, ran}
-use Rattle.bench.specs.Bench.{closing}
+use Rattle.bench.specs.{declared.Night.{Night}, declared.lines.Header.{Header}, declared.lines.Command.the-variants.{Unknown}, Text.{answerLine, badHeader}}
+use Rattle.bench.specs.{Lines.{headerOf, commandOf}, Night.{begun, ran}, Bench.{closing}}
 
 -- what stands between LFs, after a piece that is read; a last piece counts if it has a byte
 unfoldable pub linesFrom : List ℕ → List ℕ → List (List ℕ)

@@ -1,7 +1,6 @@
 -- Feeding a bench piece by piece until all is used or it is over, and finishing it.
 use Rattle.laws.specs.Words.{true, List, [], _++_, _≡_, _⊎_, ℕ, _≤_, length, take, drop}
-use Rattle.bench.specs.declared.Bench.{Bench}
-use Rattle.bench.specs.Bench.{isOver, feeding, finished, finishedBytes}
+use Rattle.bench.specs.{declared.Bench.{Bench}, Bench.{isOver, feeding, finished, finishedBytes}}
 
 -- A bench with the input that is left, and what is written from then on. A piece of the input is fed, with a buffer of at least 64 bytes;
 -- at the end of the input, or once it is over, it is finished, with such a buffer.

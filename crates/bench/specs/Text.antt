@@ -1,8 +1,7 @@
 -- The texts that the bench reads and writes, as bytes.
-use Rattle.laws.specs.Words.{Bool, cond, List, [], _∷_, _++_, _≡_, ℕ, _+_, _/_, _%_, ltb, length}
 use lib.Seq.{sets}
-use Rattle.bench.specs.declared.lines.Command.{Command}
-use Rattle.bench.specs.declared.lines.Command.the-variants.{Take, Return, Deliver, Unknown}
+use Rattle.laws.specs.Words.{Bool, cond, List, [], _∷_, _++_, _≡_, ℕ, _+_, _/_, _%_, ltb, length}
+use Rattle.bench.specs.{declared.lines.Command.{Command}, declared.lines.Command.the-variants.{Take, Return, Deliver, Unknown}}
 
 -- a number below 1000, decimal without leading zeros
 unfoldable pub decimal : ℕ → List ℕ

@@ -1,12 +1,9 @@
 -- Demand 2: the short record answers as the full queue does. What is stated; `proofs/` proves it.
-use Rattle.laws.specs.Words.{_≡_, false, not, List, [], _∷_, T, pos}
-use Rattle.laws.specs.Big.{Bytes}
-use Rattle.queue.specs.Queue.{Start, phase, order}
-use Rattle.queue.specs.Replies.{Call, take-call, return-call, receive-call, value-call, missing-call, Reply, told, worth, lacking, after, replies}
-use Rattle.queue.specs.Calls.{onQueue}
+use Rattle.laws.specs.{Words.{_≡_, false, not, List, [], _∷_, T, pos}, Big.{Bytes}}
 use Rattle.post.specs.Sound.{inRange}
-use Rattle.feeder.specs.Image.{image}
-use Rattle.feeder.specs.OnRecord.{onRecord, startedPost}
+use Rattle.queue.specs.Queue.{Start, phase, order}
+use Rattle.queue.specs.{Replies.{Call, take-call, return-call, receive-call, value-call, missing-call, Reply, told, worth, lacking, after, replies}, Calls.{onQueue}}
+use Rattle.feeder.specs.{Image.{image}, OnRecord.{onRecord, startedPost}}
 
 -- the start is accepted
 abbrev pub Accepted : Start → Type 0

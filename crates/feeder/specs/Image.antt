@@ -1,10 +1,8 @@
 -- The short record that a full queue comes to: every field is a function of the queue.
-use Rattle.laws.specs.Words.{List, [], _∷_, ℕ, zero, suc, length}
-use Rattle.laws.specs.Lists.{many}
+use Rattle.laws.specs.{Words.{List, [], _∷_, ℕ, zero, suc, length}, Lists.{many}}
 use Rattle.frame.specs.Message.{isTake, isReturn}
+use Rattle.post.specs.{declared.Post.{Post}, Record.{inSlots, made}}
 use Rattle.queue.specs.Queue.{Start, Queue, clock, last, settled, waiting, phase, order}
-use Rattle.post.specs.declared.Post.{Post}
-use Rattle.post.specs.Record.{inSlots, made}
 
 -- f i, f (i + 1), .. : n of them
 unfoldable pub listFrom : ℕ → ℕ → (ℕ → ℕ) → List ℕ

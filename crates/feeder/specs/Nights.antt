@@ -1,18 +1,12 @@
 -- Document 01's nights P1 to P10: for each, the calls at one post, every reply in full, and what the post has at the end.
 -- `proofs/NightsHold` reckons all of them through, over the short record and over the full queue.
-use Rattle.laws.specs.Words.{true, false, List, [], _∷_, _++_, map, _≡_, ℕ, _^_, pos, negsuc}
-use Rattle.laws.specs.Lists.{many}
-use Rattle.laws.specs.Below.{leastTo}
-use Rattle.frame.specs.declared.Message.{Message}
-use Rattle.frame.specs.Message.{msg, isTake, isReturn, stampOf}
-use Rattle.frame.specs.Frame.{frame}
-use Rattle.queue.specs.Queue.{Start, clock, last, lastStamp, settled, waiting, phase, order}
-use Rattle.queue.specs.Replies.{Call, take-call, return-call, receive-call, value-call, missing-call, Reply, told, worth, lacking, after, replies}
-use Rattle.queue.specs.Calls.{onQueue}
-use Rattle.queue.specs.Feeder.{buffer}
+use Rattle.laws.specs.{Words.{true, false, List, [], _∷_, _++_, map, _≡_, ℕ, _^_, pos, negsuc}, Lists.{many}, Below.{leastTo}}
+use Rattle.frame.specs.{declared.Message.{Message}, Message.{msg, isTake, isReturn, stampOf}, Frame.{frame}}
 use Rattle.post.specs.Record.{lastOf, waitingOf, floor}
-use Rattle.feeder.specs.Image.{listFrom}
-use Rattle.feeder.specs.OnRecord.{onRecord, startedPost}
+use Rattle.queue.specs.Queue.{Start, clock, last, lastStamp, settled, waiting, phase, order}
+use Rattle.queue.specs.{Replies.{Call, take-call, return-call, receive-call, value-call, missing-call, Reply, told, worth, lacking, after, replies}, Calls.{onQueue}}
+use Rattle.queue.specs.Feeder.{buffer}
+use Rattle.feeder.specs.{Image.{listFrom}, OnRecord.{onRecord, startedPost}}
 
 -- what a post has at the end; last is by post from 0, floor is a stamp as one number
 pub record Closing : Type 0 where

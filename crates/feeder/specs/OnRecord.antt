@@ -1,8 +1,6 @@
 -- The calls over the short record, as the crate post promises them, told in the queue's terms.
-use Rattle.queue.specs.Queue.{Start}
-use Rattle.queue.specs.Replies.{Call, take-call, return-call, receive-call, value-call, missing-call, told, worth, lacking, Answer}
-use Rattle.post.specs.declared.Post.{Post}
-use Rattle.post.specs.Calls.{Outcome, started, took, gaveBack, received, valued, missed}
+use Rattle.post.specs.{declared.Post.{Post}, Calls.{Outcome, started, took, gaveBack, received, valued, missed}}
+use Rattle.queue.specs.{Queue.{Start}, Replies.{Call, take-call, return-call, receive-call, value-call, missing-call, told, worth, lacking, Answer}}
 
 -- what a take, a return or a receive gives back, with the lent bytes after it
 abbrev pub answered : Outcome → Answer Post

@@ -1,15 +1,10 @@
 -- Demand 3 over records and bytes: posts that keep short records, and frames that travel as they were written.
-use Rattle.laws.specs.Words.{Bool, false, not, cond, _&&_, List, [], _∷_, _++_, map, _≡_, ℕ, _+_, _≤_, _<_, T, ltb, eqb, length, take, drop}
-use Rattle.laws.specs.Below.{sumTo, countTo}
+use Rattle.laws.specs.{Words.{Bool, false, not, cond, _&&_, List, [], _∷_, _++_, map, _≡_, ℕ, _+_, _≤_, _<_, T, ltb, eqb, length, take, drop}, Below.{sumTo, countTo}}
 use Rattle.frame.specs.Frame.{frame}
-use Rattle.queue.specs.Queue.{grants}
-use Rattle.queue.specs.Replies.{Call, take-call, return-call, receive-call, Reply, told, worth, lacking}
-use Rattle.queue.specs.Feeder.{Line, start, Act, takeAt, returnAt, deliver, buffer, fresh, sent, run, returnsSent}
-use Rattle.queue.specs.Demand3.{marked, Demand3}
-use Rattle.post.specs.declared.Post.{Post}
-use Rattle.post.specs.Sound.{inRange}
-use Rattle.feeder.specs.Image.{image}
-use Rattle.feeder.specs.OnRecord.{onRecord, startedPost}
+use Rattle.post.specs.{declared.Post.{Post}, Sound.{inRange}}
+use Rattle.queue.specs.{Queue.{grants}, Replies.{Call, take-call, return-call, receive-call, Reply, told, worth, lacking}}
+use Rattle.queue.specs.{Feeder.{Line, start, Act, takeAt, returnAt, deliver, buffer, fresh, sent, run, returnsSent}, Demand3.{marked, Demand3}}
+use Rattle.feeder.specs.{Image.{image}, OnRecord.{onRecord, startedPost}}
 
 -- a post: its record, the frames it wrote, how many of each other's it has accepted, and how many grant marks its calls gave
 pub record Board : Type 0 where

@@ -1,11 +1,6 @@
 -- Frames: their bytes, and what reading and writing one give.
-use Rattle.laws.specs.Words.{not, cond, List, [], _∷_, _++_, _≡_, ℕ, ltb, eqb, length, getD, drop}
-use Rattle.laws.specs.Big.{fieldsIn, fieldBytes}
-use Rattle.laws.specs.Ladder.{Row, _when_, refusal}
-use Rattle.frame.specs.declared.Message.{Message}
-use Rattle.frame.specs.declared.Fields.{Fields}
-use Rattle.frame.specs.declared.Reading.{Reading}
-use Rattle.frame.specs.Message.{msg, blank, known}
+use Rattle.laws.specs.{Words.{not, cond, List, [], _∷_, _++_, _≡_, ℕ, ltb, eqb, length, getD, drop}, Big.{fieldsIn, fieldBytes}, Ladder.{Row, _when_, refusal}}
+use Rattle.frame.specs.{declared.Message.{Message}, declared.Fields.{Fields}, declared.Reading.{Reading}, Message.{msg, blank, known}}
 
 -- the bytes 46 50 4D
 abbrev pub mark : ℕ

@@ -1,9 +1,6 @@
 -- The table of refusals for the calls of a post: what is given and when, in the order of the tests.
-use Rattle.laws.specs.Words.{not, _&&_, _||_, List, [], _∷_, _++_, ℕ, leb, ltb, eqb, length}
-use Rattle.laws.specs.Ladder.{Row, _when_}
-use Rattle.frame.specs.declared.Message.{Message}
-use Rattle.frame.specs.Message.{counted, known, lastCounter}
-use Rattle.frame.specs.Frame.{fieldsOf, formRows}
+use Rattle.laws.specs.{Words.{not, _&&_, _||_, List, [], _∷_, _++_, ℕ, leb, ltb, eqb, length}, Ladder.{Row, _when_}}
+use Rattle.frame.specs.{declared.Message.{Message}, Message.{counted, known, lastCounter}, Frame.{fieldsOf, formRows}}
 
 -- an own message, which goes out in one phase alone; n is the length of the lent buffer
 unfoldable pub ownTests : ℕ → ℕ → ℕ → ℕ → ℕ → List Row

@@ -1,8 +1,8 @@
 -- What each call gives back and leaves, for every record, every frame and every lent buffer.
-use Rattle.laws.specs.Words.{_≡_, Bool, true, false, not, cond, _&&_, List, [], _∷_, ℕ, _+_, max, ltb, eqb, pos, _-ℤ_, length, set}
-use Rattle.laws.specs.{Ladder.{Row, _when_, unless}, Lists.{many, put}, Below.{countTo, bitsTo}}
-use Rattle.frame.specs.{declared.Message.{Message}, Message.{msg, counted, stampOf, stamp, by, ownTake}, Frame.{over, fieldsOf}, Table.{ownTests, receiveTests}}
 use Rattle.post.specs.declared.{Post.{Post}, Started.{Started}, Answer.{Answer}, Value.{Value}, Missing.{Missing}}
+use Rattle.laws.specs.{Words.{_≡_, Bool, true, false, not, cond, _&&_, List, [], _∷_, ℕ, _+_, max, ltb, eqb, pos, _-ℤ_, length, set}, Ladder.{Row, _when_, unless}}
+use Rattle.laws.specs.{Lists.{many, put}, Below.{countTo, bitsTo}}
+use Rattle.frame.specs.{declared.Message.{Message}, Message.{msg, counted, stampOf, stamp, by, ownTake}, Frame.{over, fieldsOf}, Table.{ownTests, receiveTests}}
 use Rattle.post.specs.{Record.{lastOf, waitingOf, fresh, remade}, Sound.{inRange, sound}, Settle.{settle}}
 
 -- a start; a refused one gives the all-zero record

@@ -1,7 +1,7 @@
 -- What functions inside the crate promise each other, where a record says it best.
+use Rattle.post.specs.declared.{Post.{Post}, slots.{Seen.{Seen}, Gone.{Gone}}}
 use Rattle.laws.specs.{Words.{Bool, true, _&&_, List, _≡_, ℕ, _+_, _-_, _^_, _≤_, _<_, length, getD, drop, replicate}, Lists.{all, many, rises}}
 use Rattle.frame.specs.{declared.Message.{Message}, Message.{blank, isTake, isReturn, stamp, by, ownTake, ownReturn}}
-use Rattle.post.specs.declared.{Post.{Post}, slots.{Seen.{Seen}, Gone.{Gone}}}
 use Rattle.post.specs.{Record.{waitingOf}, Settle.{ownNumber}, Sound.{fair, isBlank, endKind}}
 
 -- a look over messages above the floor t, and over the slots after them

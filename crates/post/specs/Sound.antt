@@ -1,6 +1,6 @@
 -- When a record is sound: document 01's rules, one definition each, in its order.
-use Rattle.laws.specs.Words.{Bool, not, cond, _&&_, _||_, List, [], _∷_, ℕ, _+_, leb, ltb, eqb, getD, drop}
-use Rattle.laws.specs.{Ladder.{every}, Lists.{all, many, rises}, Below.{allTo, sumTo}}
+use Rattle.laws.specs.{Words.{Bool, not, cond, _&&_, _||_, List, [], _∷_, ℕ, _+_, leb, ltb, eqb, getD, drop}, Ladder.{every}, Lists.{all, many, rises}}
+use Rattle.laws.specs.Below.{allTo, sumTo}
 use Rattle.frame.specs.{declared.Message.{Message}, Message.{counted, stamp, by, ownTake, ownReturn}}
 use Rattle.post.specs.{declared.Post.{Post}, Record.{lastOf, waitingOf, floor}}
 

@@ -1,8 +1,8 @@
 -- The calls over the full queue, with frames and lent buffers as bytes.
-use Rattle.laws.specs.Words.{Bool, true, not, cond, _&&_, List, ℕ, suc, eqb, length}
-use Rattle.laws.specs.{Ladder.{Row, unless}, Lists.{many, put}, Below.{countTo, bitsTo}}
+use Rattle.laws.specs.{Words.{Bool, true, not, cond, _&&_, List, ℕ, suc, eqb, length}, Ladder.{Row, unless}, Lists.{many, put}, Below.{countTo, bitsTo}}
 use Rattle.frame.specs.{declared.Message.{Message}, Message.{msg, counted, stamp, by}, Frame.{over, fieldsOf}, Table.{takeTests, returnTests, receiveTests}}
-use Rattle.queue.specs.{Queue.{Start, Queue, clock, last, waiting, phase, value, lacks}, Replies.{Call, take-call, return-call, receive-call, value-call, missing-call, told, worth, lacking, Answer, refused}}
+use Rattle.queue.specs.Queue.{Start, Queue, clock, last, waiting, phase, value, lacks}
+use Rattle.queue.specs.Replies.{Call, take-call, return-call, receive-call, value-call, missing-call, told, worth, lacking, Answer, refused}
 
 -- the own next message: the clock rises by 1, and the message bears it
 unfoldable pub saying : Start → ℕ → Queue → Message

@@ -1,11 +1,7 @@
 -- Demand 3 over full queues: what is stated. `proofs/Demand3` proves it.
-use Rattle.laws.specs.Words.{Bool, false, cond, List, [], _∷_, _++_, _≡_, _⊎_, _↔_, ℕ, _+_, _≤_, _<_}
-use Rattle.laws.specs.Lists.{In, keep, Begins}
-use Rattle.frame.specs.declared.Message.{Message}
-use Rattle.frame.specs.Message.{counted}
-use Rattle.queue.specs.Queue.{Start, Queue, settled, takes, number, grants, latest}
-use Rattle.queue.specs.Replies.{Call, Reply, told, worth, lacking, after}
-use Rattle.queue.specs.Calls.{onQueue}
+use Rattle.laws.specs.{Words.{Bool, false, cond, List, [], _∷_, _++_, _≡_, _⊎_, _↔_, ℕ, _+_, _≤_, _<_}, Lists.{In, keep, Begins}}
+use Rattle.frame.specs.{declared.Message.{Message}, Message.{counted}}
+use Rattle.queue.specs.{Queue.{Start, Queue, settled, takes, number, grants, latest}, Replies.{Call, Reply, told, worth, lacking, after}, Calls.{onQueue}}
 use Rattle.queue.specs.Feeder.{Line, start, Feeder, fresh, sent, had, Act, run, returnsSent, granted, holding}
 
 -- each post's queue was made by calls at that post, with any frames and buffers

@@ -1,13 +1,7 @@
 -- A feeder: posts 0 to N - 1, each by its full queue, and runs of takes, returns and deliveries.
-use Rattle.laws.specs.Words.{not, cond, _&&_, List, [], _∷_, ℕ, ltb, eqb, length, drop, replicate}
-use Rattle.laws.specs.Lists.{keep, many}
-use Rattle.laws.specs.Below.{sumTo, countTo}
-use Rattle.frame.specs.declared.Message.{Message}
-use Rattle.frame.specs.Message.{isReturn, by}
-use Rattle.frame.specs.Frame.{frame}
-use Rattle.queue.specs.Queue.{Start, Queue, grants, phase}
-use Rattle.queue.specs.Replies.{Call, take-call, return-call, receive-call}
-use Rattle.queue.specs.Calls.{onQueue}
+use Rattle.laws.specs.{Words.{not, cond, _&&_, List, [], _∷_, ℕ, ltb, eqb, length, drop, replicate}, Lists.{keep, many}, Below.{sumTo, countTo}}
+use Rattle.frame.specs.{declared.Message.{Message}, Message.{isReturn, by}, Frame.{frame}}
+use Rattle.queue.specs.{Queue.{Start, Queue, grants, phase}, Replies.{Call, take-call, return-call, receive-call}, Calls.{onQueue}}
 
 -- what the posts of a feeder are started with alike
 pub record Line : Type 0 where

@@ -1,6 +1,5 @@
 -- A post by its full queue: every message that it sent or accepted, sorted by stamp. All else is worked out from that list.
-use Rattle.laws.specs.Words.{Bool, not, cond, _&&_, _||_, List, ℕ, _+_, leb, ltb, eqb, ℤ, pos, _-ℤ_, length}
-use Rattle.laws.specs.{Lists.{keep, many, final, upto, top}, Below.{allTo}}
+use Rattle.laws.specs.{Words.{Bool, not, cond, _&&_, _||_, List, ℕ, _+_, leb, ltb, eqb, ℤ, pos, _-ℤ_, length}, Lists.{keep, many, final, upto, top}, Below.{allTo}}
 use Rattle.frame.specs.{declared.Message.{Message}, Message.{msg, isTake, isReturn, counted, stampOf, stamp, by}}
 
 -- what a post is started with
