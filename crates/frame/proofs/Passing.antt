@@ -1,15 +1,15 @@
 -- What a call that no row of its table refuses was given. Assumes nothing.
 use mathlib.Core.Path.{_≡_}
-use mathlib.Core.Bool.{Bool, true, false, _&&_}
+use mathlib.Core.Bool.{Bool, true, false, _&&_, not}
 use mathlib.Core.List.{List}
 use Prim.Native.Nat.{ℕ, _≤_, _<_}
-use borrow.Author.Tests.{eqb-true, eqb-false, leb-false, ltb-false, not-false}
+use borrow.Author.Tests.{eqb-true, eqb-false, leb-false, ltb-false, not-false, le-leb, lt-leb}
 use denote.Floats.{passes}
 use lib.Dec.{T, leb, ltb, eqb}
 use mir.Facts.{yes-and}
 use Rattle.laws.specs.Ladder.{refusal}
 use Rattle.laws.proofs.Tests.{or-off}
-use Rattle.laws.proofs.Ladders.{quiet}
+use Rattle.laws.proofs.Ladders.{quiet, not-on, not-off, both-on, one-off, two-off}
 use Rattle.frame.specs.declared.Message.{Message}
 use Rattle.frame.specs.Message.{counted, known, lastCounter}
 use Rattle.frame.specs.Frame.{fieldsOf, formRows}
@@ -18,6 +18,16 @@ use Rattle.frame.specs.Table.{ownTests, senderTests, turnTests, receiveT
 and-off : (a b : Bool) → a && b ≡ false → T a → b ≡ false
 and-off true b e t = e
 and-off false b e t = absurd t
+
+-- a kind by its two tests
+pub is-kind : (k : ℕ) → 1 ≤ k → k ≤ 3 → not (known k) ≡ false
+is-kind k a b = not-off (known k) (both-on (leb 1 k) (leb k 3) (le-leb 1 k a) (le-leb k 3 b))
+
+pub low-kind : (k : ℕ) → k < 1 → not (known k) ≡ true
+low-kind k h = not-on (known k) (one-off (leb 1 k) (leb k 3) (lt-leb 1 k h))
+
+pub high-kind : (k : ℕ) → 3 < k → not (known k) ≡ true
+high-kind k h = not-on (known k) (two-off (leb 1 k) (leb k 3) (lt-leb k 3 h))
 
 -- an own message, sent in a phase
 pub record Speaks (now c n at : ℕ) : Type 0 where

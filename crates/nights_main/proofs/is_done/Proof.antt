@@ -1,14 +1,8 @@
 -- `nights_main::is_done` meets its contract. Assumes nothing.
-use borrow.Author.Needs.{needs}
-use Rattle.laws.proofs.Ladders.{tests}
+use mathlib.Core.Path.{refl}
+use Rattle.laws.proofs.Ladders.{or-passes, or-after}
 use Rattle.nights_main.proofs.is_done.Statement.{statement}
 use Rattle.nights_main.proofs.is_done.Tie as tie
 
-returns : tie.Need-returns
-returns c = search needs
-
-returns-2 : tie.Need-returns-2
-returns-2 c = search (tests, needs) depth 10
-
 pub is-done-spec : {M : Type 1} → statement M
-is-done-spec = tie.close (tie.spec returns returns-2)
+is-done-spec = tie.close (tie.spec (λ c. or-passes _ _ (c .if1 .taken) refl) (λ c. or-after _ _ (c .if1 .left) refl))

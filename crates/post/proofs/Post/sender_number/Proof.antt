@@ -1,24 +1,25 @@
 use mathlib.Core.Path.{_≡_, refl}
 use mathlib.Core.Bool.{false, not}
 use borrow.Author.Tests.{le-leb, lt-leb, eq-eqb, ne-eqb}
-use lib.Dec.{leb, eqb}
-use Rattle.laws.proofs.Ladders.{on, off, not-on, not-off, both-on, one-off, two-off, one-on, two-on, both-off}
+use lib.Dec.{eqb}
+use Rattle.laws.proofs.Ladders.{on, off, one-on, two-on, both-off}
 use Rattle.frame.specs.Message.{known}
 use Rattle.frame.specs.Table.{senderTests}
+use Rattle.frame.proofs.Passing.{is-kind, low-kind, high-kind}
 use Rattle.post.proofs.Post.sender_number.Statement.{statement}
 use Rattle.post.proofs.Post.sender_number.Tie as tie
 
 -- the kind is one that there is
 kind : (c : tie.Else2) → not (known (c .before .before .before .before .args .m .kind)) ≡ false
-kind c = not-off _ (both-on _ _ (le-leb _ _ (c .before .before .if1 .left)) (le-leb _ _ (c .if2 .left)))
+kind c = is-kind _ (c .before .before .if1 .left) (c .if2 .left)
 
 returns : tie.Need-returns
 unfolding senderTests
-returns c = on _ _ _ (not-on _ (one-off _ _ (lt-leb _ _ (c .if1 .taken)))) refl
+returns c = on _ _ _ (low-kind _ (c .if1 .taken)) refl
 
 returns-2 : tie.Need-returns-2
 unfolding senderTests
-returns-2 c = on _ _ _ (not-on _ (two-off (leb 1 (c .before .before .before .before .args .m .kind)) _ (lt-leb _ _ (c .if2 .taken)))) refl
+returns-2 c = on _ _ _ (high-kind _ (c .if2 .taken)) refl
 
 returns-3 : tie.Need-returns-3
 unfolding senderTests
