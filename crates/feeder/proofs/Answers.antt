@@ -73,14 +73,14 @@ module _ (st : Start) (q : Queue) (k : Fitting st q) (s : T (sound (image st q))
   unfolding onRecord onQueue post.ownRows image
   take-same lent =
       let rows = takeTests (phase st q) (clock q) (length lent) in
-      same-unless st q lent (post.ownRows 0 13 p (length lent)) rows _ _ (past-one (sound p) (refusal rows) s)
+      same-unless st q lent (post.ownRows takeTests p (length lent)) rows _ _ (past-one (sound p) (refusal rows) s)
       (λ z. let h = own-passed 0 13 _ _ (length lent) tt z in same-said 1 1 lent (take-step st q k (rw (h .phase) tt) (h .clock)))
 
   pub return-same : (lent : List ℕ) → Same st (onRecord (image st q) (return-call lent)) (onQueue st q (return-call lent))
   unfolding onRecord onQueue post.ownRows image
   return-same lent =
       let rows = returnTests (phase st q) (clock q) (length lent) in
-      same-unless st q lent (post.ownRows 3 14 p (length lent)) rows _ _ (past-one (sound p) (refusal rows) s)
+      same-unless st q lent (post.ownRows returnTests p (length lent)) rows _ _ (past-one (sound p) (refusal rows) s)
       (λ z. same-said 2 0 lent (return-step st q k (own-passed 3 14 _ _ (length lent) tt z .clock)))
 
   -- ---- a message received

@@ -6,6 +6,7 @@ use Rattle.frame.specs.{declared.Message.{Message}, Message.{counted, kn
 unfoldable pub ownTests : ℕ → ℕ → ℕ → ℕ → ℕ → List Row
 ownTests at other phase clock n = 2 when ltb n 12 ∷ other when not (eqb phase at) ∷ 11 when leb lastCounter clock ∷ []
 
+-- a take goes out in phase 0, a return in phase 3
 abbrev pub takeTests : ℕ → ℕ → ℕ → List Row
 takeTests phase clock n = ownTests 0 13 phase clock n
 

@@ -10,6 +10,7 @@ use Rattle.laws.specs.Lists.{many}
 use Rattle.frame.specs.declared.Message.{Message}
 use Rattle.frame.specs.Message.{by}
 use Rattle.frame.specs.Frame.{fieldsOf}
+use Rattle.frame.specs.Table.{ownTests}
 use Rattle.frame.proofs.Passing.{Speaks, own-passed, Comes, receive-passed}
 use Rattle.post.specs.declared.Post.{Post}
 use Rattle.post.specs.Record.{lastOf, waitingOf}
@@ -25,7 +26,7 @@ past-one false n e = absurd (omega arith)
 abbrev pub Spoken : Post → ℕ → ℕ → Type 0
 Spoken p n at = T (sound p) × Speaks (p .phase) (p .clock) n at
 
-pub speaks : (at other : ℕ) (p : Post) (n : ℕ) → T (ltb 0 other) → refusal (ownRows at other p n) ≡ 0 → Spoken p n at
+pub speaks : (at other : ℕ) (p : Post) (n : ℕ) → T (ltb 0 other) → refusal (ownRows (ownTests at other) p n) ≡ 0 → Spoken p n at
 unfolding ownRows
 speaks at other p n o e = let q = past-one (sound p) _ e in (q .0, own-passed at other _ _ n o (q .1))
 

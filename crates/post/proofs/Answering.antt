@@ -15,6 +15,7 @@ use Rattle.laws.proofs.Ladders.{on, off, not-off, unrefused}
 use Rattle.laws.proofs.CountLaws.{length-put}
 use Rattle.frame.specs.declared.Message.{Message}
 use Rattle.frame.specs.Message.{blank, msg, known, counted, stamp}
+use Rattle.frame.specs.Table.{ownTests}
 use Rattle.frame.specs.Frame.{over, messageRows, writeRows, writeNo, bytesAfter, Written}
 use Rattle.post.specs.declared.Post.{Post}
 use Rattle.post.specs.declared.Answer.{Answer}
@@ -103,15 +104,15 @@ joined-own p kind phase = ap (λ (l : List ℕ). remade p (p .clock + 1) l (put 
 
 -- an own message that no row refuses
 pub is-said : (p : Post) (at other kind phase : ℕ) → T (ltb 0 other) → T (known kind) → {n k : ℕ} {next : Post} {r : Answer} {lent new : List ℕ}
-    → n ≡ refusal (ownRows at other p (length lent)) → n ≡ 0 → next ≡ joined p (msg kind (p .own) (p .clock + 1)) (p .clock + 1) phase 0
+    → n ≡ refusal (ownRows (ownTests at other) p (length lent)) → n ≡ 0 → next ≡ joined p (msg kind (p .own) (p .clock + 1)) (p .clock + 1) phase 0
     → r ≡ answer (p .phase) (settle next) true → Written lent new (p .feeder) (msg kind (p .own) (p .clock + 1)) k
-    → Gives (unless (ownRows at other p (length lent)) (stays p lent) (said p kind phase lent)) r new
+    → Gives (unless (ownRows (ownTests at other) p (length lent)) (stays p lent) (said p kind phase lent)) r new
 is-said p at other kind phase o known-kind {lent = lent} e z j a w =
     let h = speaks at other p (length lent) o (sym e ∙ z) in
     let s = sound-has p (h .0) in
     let own = s .range .own-low in
     let few = s .range .posts-high in
-    is-done p (ownRows at other p (length lent)) e lent (said p kind phase lent) z
+    is-done p (ownRows (ownTests at other) p (length lent)) e lent (said p kind phase lent) z
     (writes p (spoken p kind phase) _ (j ∙ joined-own p kind phase) a w known-kind (omega arith) (omega arith) (h .1 .room))
 
 module _ (p : Post) (m : Message) (lent : List ℕ) where

@@ -14,6 +14,7 @@ use Rattle.laws.proofs.LeastLaws.{least-le, le-least, least-mono}
 use Rattle.frame.specs.declared.Message.{Message}
 use Rattle.frame.specs.Message.{stampOf, stamp, counted}
 use Rattle.frame.specs.Frame.{fieldsOf}
+use Rattle.frame.specs.Table.{takeTests, returnTests}
 use Rattle.post.specs.declared.Post.{Post}
 use Rattle.post.specs.Record.{lastOf, floor, remade}
 use Rattle.post.specs.Settle.{settle}
@@ -50,10 +51,10 @@ said-floor p kind phase rows lent =
     (λ n z. omega arith)
 
 pub took-floor : (p : Post) (lent : List ℕ) → floor p ≤ floor (took p lent .gives .post)
-took-floor p lent = said-floor p 1 1 (ownRows 0 13 p (length lent)) lent
+took-floor p lent = said-floor p 1 1 (ownRows takeTests p (length lent)) lent
 
 pub gaveBack-floor : (p : Post) (lent : List ℕ) → floor p ≤ floor (gaveBack p lent .gives .post)
-gaveBack-floor p lent = said-floor p 2 0 (ownRows 3 14 p (length lent)) lent
+gaveBack-floor p lent = said-floor p 2 0 (ownRows returnTests p (length lent)) lent
 
 pub received-floor : (p : Post) (s lent : List ℕ) → floor p ≤ floor (received p s lent .gives .post)
 unfolding heardFrom came noted remade

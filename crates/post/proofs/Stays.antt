@@ -17,6 +17,7 @@ use Rattle.laws.proofs.CountLaws.{many-put}
 use Rattle.frame.specs.declared.Message.{Message}
 use Rattle.frame.specs.Message.{msg, lastCounter, stamp, isTake, isReturn, counted, by, ownTake, ownReturn}
 use Rattle.frame.specs.Frame.{fieldsOf}
+use Rattle.frame.specs.Table.{takeTests, returnTests}
 use Rattle.post.specs.declared.Post.{Post}
 use Rattle.post.specs.Record.{waitingOf}
 use Rattle.post.specs.Sound.{endKind}
@@ -121,13 +122,13 @@ module _ (p : Post) (k : Kept p) (s : Sound p) where
 module _ (p : Post) (k : Kept p) where
   pub took-kept : (lent : List ℕ) → Kept (took p lent .gives .post)
   took-kept lent =
-      unless-both (λ (o : Outcome). Kept (o .gives .post)) (ownRows 0 13 p (length lent)) (stays p lent) _
+      unless-both (λ (o : Outcome). Kept (o .gives .post)) (ownRows takeTests p (length lent)) (stays p lent) _
       (λ z. take-kept p k (sound-has p (k .sound)) (speaks 0 13 p (length lent) tt z))
       (λ n z. k)
 
   pub gaveBack-kept : (lent : List ℕ) → Kept (gaveBack p lent .gives .post)
   gaveBack-kept lent =
-      unless-both (λ (o : Outcome). Kept (o .gives .post)) (ownRows 3 14 p (length lent)) (stays p lent) _
+      unless-both (λ (o : Outcome). Kept (o .gives .post)) (ownRows returnTests p (length lent)) (stays p lent) _
       (λ z. return-kept p k (sound-has p (k .sound)) (speaks 3 14 p (length lent) tt z))
       (λ n z. k)
 

@@ -2,7 +2,7 @@
 use Rattle.post.specs.declared.{Post.{Post}, Started.{Started}, Answer.{Answer}, Value.{Value}, Missing.{Missing}}
 use Rattle.laws.specs.{Words.{_≡_, Bool, true, false, not, cond, _&&_, List, [], _∷_, ℕ, _+_, max, ltb, eqb, pos, _-ℤ_, length, set}, Ladder.{Row, _when_, unless}}
 use Rattle.laws.specs.{Lists.{many, put}, Below.{countTo, bitsTo}}
-use Rattle.frame.specs.{declared.Message.{Message}, Message.{msg, counted, stampOf, stamp, by, ownTake}, Frame.{over, fieldsOf}, Table.{ownTests, receiveTests}}
+use Rattle.frame.specs.{declared.Message.{Message}, Message.{msg, counted, stampOf, stamp, by, ownTake}, Frame.{over, fieldsOf}, Table.{takeTests, returnTests, receiveTests}}
 use Rattle.post.specs.{Record.{lastOf, waitingOf, fresh, remade}, Sound.{inRange, sound}, Settle.{settle}}
 
 -- a start; a refused one gives the all-zero record
@@ -36,8 +36,8 @@ unfoldable pub noted : Post → Message → Post
 noted p m = remade p (max (p .clock) (m .counter)) (set (p .last) (m .sender) (m .counter)) (waitingOf p) (p .phase) (p .order)
 
 -- the refusals of each call; n is the length of the lent buffer
-unfoldable pub ownRows : ℕ → ℕ → Post → ℕ → List Row
-ownRows at other p n = 1 when not (sound p) ∷ ownTests at other (p .phase) (p .clock) n
+unfoldable pub ownRows : (ℕ → ℕ → ℕ → List Row) → Post → ℕ → List Row
+ownRows tests p n = 1 when not (sound p) ∷ tests (p .phase) (p .clock) n
 
 unfoldable pub receiveRows : Post → List ℕ → ℕ → List Row
 receiveRows p s n =
@@ -68,15 +68,15 @@ stays p lent n = record { gives = refused p n; leaves = lent }
 abbrev pub writing : Post → Post → Message → List ℕ → Outcome
 writing p p′ m lent = record { gives = answer (p .phase) (settle p′) true; leaves = over (p .feeder) m lent }
 
--- an own message of a kind, which brings the post to a phase: a take goes out in phase 0, a return in phase 3
+-- an own message of a kind, which brings the post to a phase
 abbrev pub said : Post → ℕ → ℕ → List ℕ → Outcome
 said p kind phase lent = writing p (spoken p kind phase) (msg kind (p .own) (p .clock + 1)) lent
 
 abbrev pub took : Post → List ℕ → Outcome
-took p lent = unless (ownRows 0 13 p (length lent)) (stays p lent) (said p 1 1 lent)
+took p lent = unless (ownRows takeTests p (length lent)) (stays p lent) (said p 1 1 lent)
 
 abbrev pub gaveBack : Post → List ℕ → Outcome
-gaveBack p lent = unless (ownRows 3 14 p (length lent)) (stays p lent) (said p 2 0 lent)
+gaveBack p lent = unless (ownRows returnTests p (length lent)) (stays p lent) (said p 2 0 lent)
 
 -- a message comes in; a take or return is acknowledged
 abbrev pub acknowledged : Post → Message → List ℕ → Outcome

@@ -12,7 +12,7 @@ ghost use lib.Dec.{eqb, T};
 ghost use lib.ListN.{length};
 ghost use Rattle.laws.specs.Ladder.{refusal, every};
 ghost use Rattle.frame.specs.Message.{lastCounter, stampOf};
-ghost use Rattle.frame.specs.Table.{senderTests, turnTests};
+ghost use Rattle.frame.specs.Table.{ownTests, senderTests, turnTests};
 ghost use Rattle.post.specs.Record.{lastOf, fresh};
 ghost use Rattle.post.specs.Sound.{numberRules, slotRules, countRules, sound};
 ghost use Rattle.post.specs.Settle.{phaseAfter, settle};
@@ -327,7 +327,7 @@ impl Post {
 
     // An own message goes out in one phase alone; in another the number is `other`.
     fn own_number(self, phase: u8, other: u8, len: usize) -> u8
-        ensures { λ r. ⌜ r ≡ refusal (ownRows phase other self len) ⌝ }
+        ensures { λ r. ⌜ r ≡ refusal (ownRows (ownTests phase other) self len) ⌝ }
     {
         if !self.sound() {
             return 1;

@@ -2,6 +2,7 @@ use borrow.Author.Needs.{needs}
 use mathlib.Core.Path.{_∙_, subst, sym}
 use denote.Ref.{now}
 use lib.ListN.{length}
+use Rattle.frame.specs.Table.{takeTests}
 use Rattle.post.specs.Calls.{ownRows}
 use Rattle.post.specs.Inside.{Countable}
 use Rattle.post.proofs.SoundFacts.{sound-has}
@@ -21,7 +22,7 @@ kept c = record { sound = passed c .0; shape = record { last = search needs; slo
 returns : tie.Need-returns
 returns c =
     let a = c .before .before .before .before .args in
-    not-done (a .self) (ownRows 0 13 (a .self) (length (now (a .buf)))) (c .before .before .own-number .ensures) _ _ (c .before .if1 .taken) (c .refused .ensures)
+    not-done (a .self) (ownRows takeTests (a .self) (length (now (a .buf)))) (c .before .before .own-number .ensures) _ _ (c .before .if1 .taken) (c .refused .ensures)
 
 add-t9 : tie.Need-add-t9
 add-t9 c = let s = passed (c .before) .1 .clock in search needs
