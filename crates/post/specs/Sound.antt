@@ -8,6 +8,14 @@ use Rattle.post.specs.{declared.Post.{Post}, Record.{lastOf, waitingOf, 
 unfoldable pub inRange : ℕ → ℕ → ℕ → ℕ → Bool
 inRange posts own feeder places = every (leb 1 posts ∷ leb posts 16 ∷ ltb own posts ∷ leb 1 places ∷ leb places 16 ∷ leb feeder 255 ∷ [])
 
+-- phase is 0 to 3
+abbrev pub phaseFits : Post → Bool
+phaseFits p = leb (p .phase) 3
+
+-- at most 62 wait
+abbrev pub waitsFit : Post → Bool
+waitsFit p = leb (p .waits) 62
+
 -- last counters at numbers N and above are 0
 unfoldable pub absentSilent : Post → Bool
 absentSilent p = allTo 16 (λ q. ltb q (p .posts) || eqb (lastOf p q) 0)
@@ -60,7 +68,7 @@ orderFits phase order takes room =
     (leb 1 order && (leb order takes && cond (eqb phase 3) (leb order room) (ltb room order)))
 
 unfoldable pub numberRules : Post → List Bool
-numberRules p = inRange (p .posts) (p .own) (p .feeder) (p .places) ∷ leb (p .phase) 3 ∷ leb (p .waits) 62 ∷ absentSilent p ∷ clockAbove p ∷ []
+numberRules p = inRange (p .posts) (p .own) (p .feeder) (p .places) ∷ phaseFits p ∷ waitsFit p ∷ absentSilent p ∷ clockAbove p ∷ []
 
 -- each waiting stamp is above the one before it, and the first above the floor
 unfoldable pub slotRules : Post → List Bool
