@@ -4,7 +4,7 @@ use Prim.Native.Nat.{ℕ, zero, suc, _+_, _*_, _/_, _%_, _^_, _<_}
 use mathlib.Core.Path.{_≡_, refl, ap, ap₂, _∙_, sym, subst}
 use mathlib.Core.List.{List, [], _∷_, _++_}
 use native.Mathlib.Omega.{arith}
-use native.Mathlib.Nat.{pow-suc, mul-comm, mul-assoc, mod-one, mod-eq-of-lt, add-mul, div-one}
+use native.Mathlib.Nat.{pow-suc, mul-comm, mul-assoc, mod-one, mod-eq-of-lt, add-mul}
 use lib.Arith.{mod-mul, digits-div, digits-mod, digits-lt}
 use lib.Dec.{lit<}
 use lib.ListN.{length, getD, take, drop, take-append-drop, length-drop, drop-of-length-le}
@@ -96,9 +96,6 @@ fields-fit (w ∷ ws) s h e = (
 
 pub of-byte : (b : ℕ) → ofBe (b ∷ []) ≡ b
 of-byte b = omega arith
-
-pub to-byte : (b : ℕ) → b < 256 → toBe 1 b ≡ b ∷ []
-to-byte b h = ap (λ (x : ℕ). x ∷ []) (ap (λ (x : ℕ). x % 256) (div-one b) ∙ mod-eq-of-lt h)
 
 -- n elements of s from a on, one by one
 abbrev pub elements : List ℕ → ℕ → ℕ → List ℕ

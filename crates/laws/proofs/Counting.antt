@@ -71,11 +71,6 @@ module _ {A : Type 0} (key : A → ℕ) where
 
   -- ---- the greatest
 
-  pub top-append : (s t : List A) → top key (s ++ t) ≡ max (top key s) (top key t)
-  unfolding top
-  top-append [] t = omega arith
-  top-append (x ∷ s) t = let h = top-append s t in omega arith
-
   pub top-put : (by : A → ℕ) (a : A) (l : List A) → top key (put by a l) ≡ max (key a) (top key l)
   unfolding top put
   top-put by a [] = refl

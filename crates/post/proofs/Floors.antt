@@ -36,7 +36,7 @@ floor-settle p = refl
 -- ---- the calls
 
 -- last counters of other posts that do not fall leave the floor as high
-pub floor-up : (p r : Post) → r .posts ≡ p .posts → r .own ≡ p .own → ((q : ℕ) → q < p .posts → (q ≡ p .own → ⊥) → lastOf p q ≤ lastOf r q)
+floor-up : (p r : Post) → r .posts ≡ p .posts → r .own ≡ p .own → ((q : ℕ) → q < p .posts → (q ≡ p .own → ⊥) → lastOf p q ≤ lastOf r q)
     → floor p ≤ floor (settle r)
 unfolding floor settle
 floor-up p r e d h =

@@ -70,7 +70,7 @@ orderFits phase order takes room =
 unfoldable pub numberRules : Post → List Bool
 numberRules p = inRange (p .posts) (p .own) (p .feeder) (p .places) ∷ phaseFits p ∷ waitsFit p ∷ absentSilent p ∷ clockAbove p ∷ []
 
--- each waiting stamp is above the one before it, and the first above the floor
+-- the second: stamps strictly rising, every one above the floor
 unfoldable pub slotRules : Post → List Bool
 slotRules p =
     all (fair (p .posts) (p .last)) (waitingOf p)
