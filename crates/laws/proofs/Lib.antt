@@ -15,6 +15,7 @@ pub mod ShiftLaws
 pub mod Counting
 pub mod SumBounds
 pub mod StoreLaws
+pub mod LaidLaws
 pub mod SearchLaws
 pub mod LeastLaws
 pub mod LeadingLaws
