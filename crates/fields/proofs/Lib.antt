@@ -1,0 +1,3 @@
+pub mod Lying
+pub mod FieldLaws
+pub mod Unique
