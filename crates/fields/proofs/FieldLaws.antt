@@ -37,7 +37,7 @@ LoadedFits = (s : List ℕ) (at width : ℕ) → Bytes s → fieldAt s at width 
 
 -- ---- proofs
 
-loaded : (s : List ℕ) (n at width : ℕ) → length s ≡ n → T (lies n at width) → fieldAt s at width ≡ ofBe (take width (drop at s))
+pub loaded : (s : List ℕ) (n at width : ℕ) → length s ≡ n → T (lies n at width) → fieldAt s at width ≡ ofBe (take width (drop at s))
 unfolding fieldAt
 loaded s n at width e t = rw (e, is-true (lies n at width) t)
 
@@ -45,7 +45,7 @@ module _ (s : List ℕ) (at width n : ℕ) where
   abbrev new : List ℕ
   new = laid s at width (toBe width n)
 
-  stored : T (lies (length s) at width) → withField s at width n ≡ new
+  pub stored : T (lies (length s) at width) → withField s at width n ≡ new
   unfolding withField
   stored t = rw (is-true (lies (length s) at width) t)
 

@@ -1,3 +1,4 @@
 pub mod Lying
 pub mod FieldLaws
+pub mod Rows
 pub mod Unique

@@ -1,6 +1,6 @@
 -- A list over a part of another: it stands there, the places before and after it stay, and the length stays. Assumes nothing.
 use mathlib.Core.Path.{_≡_, refl, ap, _∙_, sym}
-use mathlib.Core.List.{List, [], _∷_, _++_}
+use mathlib.Core.List.{List, [], _∷_, _++_, append-assoc}
 use Prim.Native.Nat.{ℕ, zero, suc, _+_, _-_, _≤_, _<_}
 use native.Mathlib.Omega.{arith}
 use lib.ListN.{length, take, drop, set, take-append-drop, length-append, length-drop}
@@ -48,6 +48,12 @@ module _ {A : Type 0} (s : List A) (i w : ℕ) (m : List A) (e : length m ≡ w)
 
   pub laid-there : take w (drop i (laid s i w m)) ≡ m
   laid-there = ap (take w) from-there ∙ take-at m (drop (i + w) s) w e
+
+  pub laid-upto : take (i + w) (laid s i w m) ≡ take i s ++ m
+  laid-upto =
+      let b = before in
+      ap (take (i + w)) (sym (append-assoc (take i s) m (drop (i + w) s)))
+      ∙ take-at (take i s ++ m) (drop (i + w) s) (i + w) (simp length-append (omega arith))
 
   pub laid-before : (j v : ℕ) → j + v ≤ i → take v (drop j (laid s i w m)) ≡ take v (drop j s)
   laid-before j v l =
