@@ -1,35 +1,26 @@
--- The bytes that writing stores are the frame's, and what a number 0 of a writing says. Assumes nothing.
-use Prim.Native.Nat.{ℕ, _≤_, _<_, _/_, _%_}
-use mathlib.Core.Path.{_≡_, refl, ap, _∙_, sym}
+-- The six fields stored one after the other are the frame, and what a number 0 of a writing says. Assumes nothing.
+use Prim.Native.Nat.{ℕ, _≤_}
+use mathlib.Core.Path.{_≡_, refl, _∙_, sym}
 use mathlib.Core.List.{List, [], _∷_, _++_}
-use native.Mathlib.Nat.{div-one, mod-eq-of-lt}
 use borrow.Author.Tests.{ltb-false, eq-eqb, ne-eqb}
 use lib.ListN.{length, drop}
-use lib.Seq.{sets, sets-eq}
 use Rattle.frame.specs.declared.Message.{Message}
 use Rattle.laws.specs.Ladder.{refusal}
 use Rattle.laws.proofs.Ladders.{on, off, quiet}
-use Rattle.frame.specs.Frame.{frame, writeRows, writeNo, bytesAfter, Written}
+use Rattle.fields.specs.Field.{withField}
+use Rattle.fields.proofs.Rows.{stores, stores-row}
+use Rattle.frame.specs.Frame.{mark, widths, frame, writeRows, writeNo, bytesAfter, Written}
 
--- the bytes as the code works them out
-abbrev pub stores : ℕ → Message → List ℕ
-stores f m =
-    let c = m .counter in
-    0x46 ∷ 0x50 ∷ 0x4d ∷ 0 ∷ 1 ∷ f ∷ m .kind ∷ m .sender ∷ c / 16777216 % 256 ∷ c / 65536 % 256 ∷ c / 256 % 256 ∷ c % 256 ∷ []
-
-byte : (b : ℕ) → b < 256 → b ≡ b / 1 % 256
-byte b h = sym (ap (λ (x : ℕ). x % 256) (div-one b) ∙ mod-eq-of-lt h)
-
-is-frame : (f : ℕ) (m : Message) → f < 256 → m .kind < 256 → m .sender < 256 → stores f m ≡ frame f m
+-- six stores one after the other
+pub stored : (b₀ : List ℕ) (f : ℕ) (m : Message) {b₁ b₂ b₃ b₄ b₅ b₆ : List ℕ}
+    → b₁ ≡ withField b₀ 0 3 mark → b₂ ≡ withField b₁ 3 2 1 → b₃ ≡ withField b₂ 5 1 f
+    → b₄ ≡ withField b₃ 6 1 (m .kind) → b₅ ≡ withField b₄ 7 1 (m .sender) → b₆ ≡ withField b₅ 8 4 (m .counter)
+    → 12 ≤ length b₀ → b₆ ≡ frame f m ++ drop 12 b₀
 unfolding frame
-is-frame f m hf hk hs =
-    let c = m .counter in
-    λ i. 0x46 ∷ 0x50 ∷ 0x4d ∷ 0 ∷ 1 ∷ byte f hf i ∷ byte (m .kind) hk i ∷ byte (m .sender) hs i
-    ∷ c / 16777216 % 256 ∷ c / 65536 % 256 ∷ c / 256 % 256 ∷ sym (div-one c) i % 256 ∷ []
-
-pub stored : (old : List ℕ) (f : ℕ) (m : Message) → f < 256 → m .kind < 256 → m .sender < 256 → 12 ≤ length old
-    → sets old 0 (stores f m) ≡ frame f m ++ drop 12 old
-stored old f m hf hk hs h = sets-eq (stores f m) old 0 h ∙ ap (λ (l : List ℕ). l ++ drop 12 old) (is-frame f m hf hk hs)
+stored b₀ f m {b₆ = b₆} e₁ e₂ e₃ e₄ e₅ e₆ h =
+    let vs : List ℕ = mark ∷ 1 ∷ f ∷ m .kind ∷ m .sender ∷ m .counter ∷ [] in
+    let e : b₆ ≡ stores b₀ 0 widths vs = cc in
+    e ∙ stores-row b₀ 0 widths vs tt refl h
 
 pub room : (n : ℕ) (m : Message) → refusal (writeRows n m) ≡ 0 → 12 ≤ n
 unfolding writeRows

@@ -1,12 +1,11 @@
 // Frames of 12 bytes: what a message is, and how it is read and written.
 ghost use mathlib.Core.Path.{_≡_};
 ghost use Prim.Native.Nat.{_≤_};
-ghost use mathlib.Core.List.{[], _∷_, _++_};
+ghost use mathlib.Core.List.{_++_};
 ghost use lib.ListN.{length, drop};
-ghost use Rattle.laws.specs.Big.{ofBe, fieldsIn};
 ghost use Rattle.laws.specs.Ladder.{refusal};
 ghost use Rattle.frame.specs.Message.{msg};
-ghost use Rattle.frame.specs.Frame.{frame, widths, fieldsFrom, fieldsOf, formRows, messageRows, readRows, readFrame, writeRows, Written};
+ghost use Rattle.frame.specs.Frame.{frame, fieldsOf, formRows, messageRows, readRows, readFrame, writeRows, Written};
 
 // A message: its kind, and its stamp of counter and sender.
 pub struct Message {
@@ -35,24 +34,6 @@ const LENGTH: usize = 12;
 const MARK: u32 = 0x46504d;
 
 const VERSION: u16 = 1;
-
-fn be16(a: u8, b: u8) -> u16
-    ensures { λ r. ⌜ r ≡ ofBe (a ∷ b ∷ []) ⌝ }
-{
-    a as u16 * 256 + b as u16
-}
-
-fn be24(a: u8, b: u8, c: u8) -> u32
-    ensures { λ r. ⌜ r ≡ ofBe (a ∷ b ∷ c ∷ []) ⌝ }
-{
-    (a as u32 * 256 + b as u32) * 256 + c as u32
-}
-
-fn be32(a: u8, b: u8, c: u8, d: u8) -> u32
-    ensures { λ r. ⌜ r ≡ ofBe (a ∷ b ∷ c ∷ d ∷ []) ⌝ }
-{
-    ((a as u32 * 256 + b as u32) * 256 + c as u32) * 256 + d as u32
-}
 
 // The refusals that reading and writing share, in the order of the table.
 fn message_number(m: Message) -> u8
@@ -109,28 +90,27 @@ fn write_number(len: usize, m: Message) -> u8
     message_number(m)
 }
 
-fn whole(s: &[u8]) -> Fields
-    requires { ⌜ length (now s) ≡ 12 ⌝ }
-    ensures { λ r. ⌜ r ≡ fieldsFrom (fieldsIn widths (now (s .entry))) ⌝ }
-{
-    Fields {
-        mark: be24(s[0], s[1], s[2]),
-        version: be16(s[3], s[4]),
-        feeder: s[5],
-        message: Message {
-            kind: s[6],
-            sender: s[7],
-            counter: be32(s[8], s[9], s[10], s[11]),
-        },
-    }
-}
-
 // What stands in the fields of 12 bytes; zeros where there are not 12.
 pub fn split(s: &[u8]) -> Fields
     ensures { λ r. ⌜ r ≡ fieldsOf (now (s .entry)) ⌝ }
 {
     if s.len() == LENGTH {
-        return whole(s);
+        let mark = fields::load(s, 0, 3) as u32;
+        let version = fields::load(s, 3, 2) as u16;
+        let feeder = fields::load(s, 5, 1) as u8;
+        let kind = fields::load(s, 6, 1) as u8;
+        let sender = fields::load(s, 7, 1) as u8;
+        let counter = fields::load(s, 8, 4) as u32;
+        return Fields {
+            mark,
+            version,
+            feeder,
+            message: Message {
+                kind,
+                sender,
+                counter,
+            },
+        };
     }
     Fields {
         mark: 0,
@@ -172,18 +152,12 @@ fn store(buf: &mut [u8], feeder: u8, kind: u8, sender: u8, counter: u32)
     requires { ⌜ 12 ≤ length (now buf) ⌝ }
     ensures { λ r. ⌜ now (buf .exit) ≡ frame feeder (msg kind sender counter) ++ drop 12 (now (buf .entry)) ⌝ }
 {
-    buf[0] = 0x46;
-    buf[1] = 0x50;
-    buf[2] = 0x4d;
-    buf[3] = 0;
-    buf[4] = 1;
-    buf[5] = feeder;
-    buf[6] = kind;
-    buf[7] = sender;
-    buf[8] = (counter / 16777216 % 256) as u8;
-    buf[9] = (counter / 65536 % 256) as u8;
-    buf[10] = (counter / 256 % 256) as u8;
-    buf[11] = (counter % 256) as u8;
+    fields::store(buf, 0, 3, MARK as u64);
+    fields::store(buf, 3, 2, VERSION as u64);
+    fields::store(buf, 5, 1, feeder as u64);
+    fields::store(buf, 6, 1, kind as u64);
+    fields::store(buf, 7, 1, sender as u64);
+    fields::store(buf, 8, 4, counter as u64);
 }
 
 // Puts a frame into the first 12 bytes of `buf`, or refuses and leaves all of it.

@@ -8,8 +8,8 @@ use native.Mathlib.Numerals.{add-one}
 use native.Mathlib.Nat.{pow-suc, mul-comm, mul-assoc, mod-one, mod-eq-of-lt, add-mul}
 use lib.Arith.{mod-mul, digits-div, digits-mod, digits-lt}
 use lib.Dec.{lit<}
-use lib.ListN.{length, getD, take, drop, take-append-drop, length-append, length-drop, drop-of-length-le}
-use lib.Seq.{take-at, drop-at, length-take-le, drop-cons, take-suc, getD-drop}
+use lib.ListN.{length, getD, take, drop, take-append-drop, length-append, length-drop}
+use lib.Seq.{take-at, drop-at, length-take-le, take-suc, getD-drop}
 use Rattle.laws.specs.Big.{Bytes, ofBe, toBe, total, fieldsIn, fieldBytes, Fit}
 
 pub pow-pos : (w : ℕ) → 0 < 256 ^ w
@@ -69,6 +69,10 @@ of-next s at i h =
 
 -- ---- the first w bytes of a list
 
+pub all-bytes : (s : List ℕ) → ((i : ℕ) → getD s i 0 < 256) → Bytes s
+all-bytes [] h = tt
+all-bytes (b ∷ s) h = (h 0, all-bytes s (λ i. h (suc i)))
+
 bytes-take : (n : ℕ) (s : List ℕ) → Bytes s → Bytes (take n s)
 bytes-take zero s h = tt
 bytes-take (suc n) [] h = tt
@@ -111,17 +115,3 @@ only-fields (w ∷ ws) s h e =
 pub fields-fit : (ws s : List ℕ) → Bytes s → length s ≡ total ws → Fit ws (fieldsIn ws s)
 fields-fit [] s h e = tt
 fields-fit (w ∷ ws) s h e = (first-fits w s h (omega arith), fields-fit ws (drop w s) (bytes-drop w s h) (simp length-drop (omega arith)))
-
--- ---- a byte, and a list by its elements
-
-pub of-byte : (b : ℕ) → ofBe (b ∷ []) ≡ b
-of-byte b = omega arith
-
--- n elements of s from a on, one by one
-abbrev pub elements : List ℕ → ℕ → ℕ → List ℕ
-elements s a zero = []
-elements s a (suc n) = getD s a 0 ∷ elements s (suc a) n
-
-pub drop-elements : (s : List ℕ) (a n : ℕ) → length s ≡ a + n → drop a s ≡ elements s a n
-drop-elements s a zero h = drop-of-length-le s {i = a} (omega arith)
-drop-elements s a (suc n) h = drop-cons s a 0 (omega arith) ∙ ap (λ (l : List ℕ). getD s a 0 ∷ l) (drop-elements s (suc a) n (omega arith))
