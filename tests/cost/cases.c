@@ -1,6 +1,7 @@
 /* cases rows DIR          writes the measured blocks, DIR/0 with no call and DIR/1, DIR/2, .. with one,
                            and prints the row that each stands for
-   cases random SEED N     writes N blocks of random calls on records of random feeders, good and bad */
+   cases random SEED N M   makes N random calls on records of random feeders, good and bad, and writes the
+                           block of every M-th */
 #include "block.h"
 
 #include <stdio.h>
@@ -251,7 +252,7 @@ static void spoil_frame(uint8_t frame[LENT], uint8_t *len)
         frame[at] = (uint8_t)(below(3) == 0 ? below(256) : below(2) == 0 ? frame[at] + 1 : below(17));
 }
 
-static void write_random(long n)
+static void write_random(long n, long every)
 {
     static struct feeder f;
     uint8_t block[BLOCK], frame[LENT], buf[LENT];
@@ -282,7 +283,7 @@ static void write_random(long n)
         }
         if (below(12) == 0)
             spoil_byte(block + 4 + LENT, r->waits);
-        if (fwrite(block, 1, BLOCK, stdout) != BLOCK)
+        if (i % every == 0 && fwrite(block, 1, BLOCK, stdout) != BLOCK)
             exit(1);
 
         /* The feeder goes on by the good call. */
@@ -309,9 +310,9 @@ int main(int argc, char **argv)
     if (argc == 3 && strcmp(argv[1], "rows") == 0) {
         folder = argv[2];
         write_rows();
-    } else if (argc == 4 && strcmp(argv[1], "random") == 0) {
+    } else if (argc == 5 && strcmp(argv[1], "random") == 0) {
         state = strtoull(argv[2], NULL, 10);
-        write_random(strtol(argv[3], NULL, 10));
+        write_random(strtol(argv[3], NULL, 10), strtol(argv[4], NULL, 10));
     } else {
         return 2;
     }
