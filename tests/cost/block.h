@@ -6,14 +6,6 @@
 #include "post.h"
 
 enum { RECEIVE, TAKES, RETURNS, VALUE, MISSING, SOUND, CALLS };
-enum {
-    RECORD = 470,
-    LENT = 16,
-    /* call, how often, frame length, buffer length, frame, record */
-    BLOCK = 4 + LENT + RECORD,
-    /* number, wrote, granted, value, set, count, buffer, record */
-    RESULT = 3 + 8 + 2 + 4 + LENT + RECORD
-};
 
 static inline uint8_t *put(uint8_t *at, uint64_t n, int width)
 {
@@ -30,46 +22,42 @@ static inline uint64_t get(const uint8_t **at, int width)
     return n;
 }
 
-static inline void put_post(uint8_t *at, const struct post *p)
+#define PUT(name, bits) at = put(at, from->name, bits / 8);
+#define PUT_MANY(name, bits, n)   \
+    for (int i = 0; i < (n); i++) \
+        at = put(at, from->name[i], bits / 8);
+
+static inline uint8_t *put_message(uint8_t *at, const struct message *from)
 {
-    at = put(at, p->posts, 1);
-    at = put(at, p->own, 1);
-    at = put(at, p->feeder, 1);
-    at = put(at, p->places, 1);
-    at = put(at, p->clock, 4);
-    for (int q = 0; q < POSTS; q++)
-        at = put(at, p->last[q], 4);
-    at = put(at, p->waits, 1);
-    for (int i = 0; i < SLOTS; i++) {
-        at = put(at, p->slots[i].kind, 1);
-        at = put(at, p->slots[i].sender, 1);
-        at = put(at, p->slots[i].counter, 4);
-    }
-    at = put(at, p->takes, 8);
-    at = put(at, p->returns, 8);
-    at = put(at, p->phase, 1);
-    put(at, p->order, 8);
+    MESSAGE(PUT)
+    return at;
 }
 
-static inline void get_post(const uint8_t *at, struct post *p)
+static inline void put_post(uint8_t *at, const struct post *from)
 {
-    p->posts = (uint8_t)get(&at, 1);
-    p->own = (uint8_t)get(&at, 1);
-    p->feeder = (uint8_t)get(&at, 1);
-    p->places = (uint8_t)get(&at, 1);
-    p->clock = (uint32_t)get(&at, 4);
-    for (int q = 0; q < POSTS; q++)
-        p->last[q] = (uint32_t)get(&at, 4);
-    p->waits = (uint8_t)get(&at, 1);
-    for (int i = 0; i < SLOTS; i++) {
-        p->slots[i].kind = (uint8_t)get(&at, 1);
-        p->slots[i].sender = (uint8_t)get(&at, 1);
-        p->slots[i].counter = (uint32_t)get(&at, 4);
-    }
-    p->takes = get(&at, 8);
-    p->returns = get(&at, 8);
-    p->phase = (uint8_t)get(&at, 1);
-    p->order = get(&at, 8);
+    BEFORE_SLOTS(PUT, PUT_MANY)
+    for (int i = 0; i < SLOTS; i++)
+        at = put_message(at, &from->slots[i]);
+    AFTER_SLOTS(PUT, PUT_MANY)
+}
+
+#define GET(name, bits) to->name = (uint##bits##_t)get(&at, bits / 8);
+#define GET_MANY(name, bits, n)   \
+    for (int i = 0; i < (n); i++) \
+        to->name[i] = (uint##bits##_t)get(&at, bits / 8);
+
+static inline const uint8_t *get_message(const uint8_t *at, struct message *to)
+{
+    MESSAGE(GET)
+    return at;
+}
+
+static inline void get_post(const uint8_t *at, struct post *to)
+{
+    BEFORE_SLOTS(GET, GET_MANY)
+    for (int i = 0; i < SLOTS; i++)
+        at = get_message(at, &to->slots[i]);
+    AFTER_SLOTS(GET, GET_MANY)
 }
 
 #endif

@@ -1,5 +1,7 @@
 /* cases rows DIR          writes the measured blocks, DIR/0 with no call and DIR/1, DIR/2, .. with one,
                            and prints the row that each stands for
+   cases sizes             prints the bytes of a block, of what comes of it, of its record, and of the
+                           record in memory
    cases random SEED N M   makes N random calls on records of random feeders, good and bad, and writes the
                            block of every M-th */
 #include "block.h"
@@ -193,7 +195,10 @@ static const struct message *next_of(struct feeder *f, uint8_t p, uint8_t q)
 
 static void spoil_byte(uint8_t record[RECORD], uint8_t waits)
 {
-    uint32_t at = below(3) == 0 ? below(73) : below(2) == 0 ? 445 + below(25) : 73 + below(6u * waits + 6);
+    const uint32_t slots = BYTES_BEFORE_SLOTS, after = slots + SLOTS * BYTES_OF_SLOT;
+    uint32_t at = below(3) == 0   ? below(slots)
+                  : below(2) == 0 ? after + below(BYTES_AFTER_SLOTS)
+                                  : slots + below(BYTES_OF_SLOT * (waits + 1u));
     switch (below(4)) {
     case 0: record[at] = (uint8_t)(record[at] + 1); break;
     case 1: record[at] = (uint8_t)(record[at] - 1); break;
@@ -310,6 +315,8 @@ int main(int argc, char **argv)
     if (argc == 3 && strcmp(argv[1], "rows") == 0) {
         folder = argv[2];
         write_rows();
+    } else if (argc == 2 && strcmp(argv[1], "sizes") == 0) {
+        printf("%d %d %d %zu\n", BLOCK, RESULT, RECORD, sizeof(struct post));
     } else if (argc == 5 && strcmp(argv[1], "random") == 0) {
         state = strtoull(argv[2], NULL, 10);
         write_random(strtol(argv[3], NULL, 10), strtol(argv[4], NULL, 10));

@@ -3,32 +3,26 @@
 #ifndef POST_H
 #define POST_H
 
+#include "fields.h"
+
 #include <stdbool.h>
 #include <stddef.h>
 #include <stdint.h>
 
-enum { POSTS = 16, SLOTS = 62, WAITING = 4, FRAME = 12 };
+enum { WAITING = 4, FRAME = 12 };
 enum { TAKE = 1, RETURN = 2, ACK = 3 };
 
+#define FIELD(name, bits) uint##bits##_t name;
+#define FIELD_OF_MANY(name, bits, n) uint##bits##_t name[n];
+
 struct message {
-    uint8_t kind;
-    uint8_t sender;
-    uint32_t counter;
+    MESSAGE(FIELD)
 };
 
 struct post {
-    uint8_t posts;
-    uint8_t own;
-    uint8_t feeder;
-    uint8_t places;
-    uint32_t clock;
-    uint32_t last[POSTS];
-    uint8_t waits;
+    BEFORE_SLOTS(FIELD, FIELD_OF_MANY)
     struct message slots[SLOTS];
-    uint64_t takes;
-    uint64_t returns;
-    uint8_t phase;
-    uint64_t order;
+    AFTER_SLOTS(FIELD, FIELD_OF_MANY)
 };
 
 struct marks {
