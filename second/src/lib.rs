@@ -13,16 +13,7 @@ pub mod draw;
 pub mod feeder;
 pub mod lines;
 
-// The checker of random runs.
+// Random runs that are checked, random nights, and what is random in both.
 pub mod checker;
-pub mod hearing;
-pub mod one_call;
-pub mod runs;
-pub mod stray;
-pub mod summary;
-pub mod table;
-pub mod watched;
-
-// Random nights, and what is random in all of this.
 pub mod nights;
 pub mod random;

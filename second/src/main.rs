@@ -6,7 +6,7 @@ use std::path::Path;
 use std::process::ExitCode;
 
 use second::draw::{self, Side};
-use second::{bench, nights, random::Random, runs};
+use second::{bench, checker, nights, random::Random};
 
 const USAGE: &str = "usage: second bench | second draw NIGHT.in NIGHT.out | \
     second check SEED CALLS | second nights SEED COUNT DIR";
@@ -70,7 +70,7 @@ fn picture(input: &Path, output: &Path) -> Result<String, String> {
 }
 
 fn check(seed: u64, calls: u64) -> ExitCode {
-    match runs::check(seed, calls) {
+    match checker::check(seed, calls) {
         Ok(summary) => {
             println!("seed {seed} {summary}");
             ExitCode::SUCCESS

@@ -1,12 +1,12 @@
 //! A feeder whose every call is held against 01, with demand 3 tested after each.
 
-use crate::checker::{self, ensure, Check, Seen};
+use super::demand::{self, Seen};
+use super::one_call::{self, Call};
+use super::summary::Summary;
+use super::{ensure, hearing, Check};
 use crate::frame;
-use crate::hearing;
 use crate::message::Message;
-use crate::one_call::{self, Call};
 use crate::queue::{Phase, Queue};
-use crate::summary::Summary;
 
 /// The length of a lent buffer; the two bytes after the frame have to stay.
 const BUFFER: usize = frame::LENGTH + 2;
@@ -173,14 +173,14 @@ impl Watched<'_> {
             format!("the list of post {post} is not what it sent and accepted")
         })?;
         self.summary.longest = self.summary.longest.max(length);
-        checker::lists_agree(&self.seen, post)?;
-        checker::marks_are_grants(&self.seen[post])?;
-        checker::places_suffice(self.places, &self.seen, self.returns_sent)?;
+        demand::lists_agree(&self.seen, post)?;
+        demand::marks_are_grants(&self.seen[post])?;
+        demand::places_suffice(self.places, &self.seen, self.returns_sent)?;
         if self.pending().is_empty() {
             self.summary.rests += 1;
             let sent = self.all_sent()?;
-            checker::all_is_settled(&self.seen, &sent)?;
-            checker::grants_are_due(self.places, &self.seen, &sent)?;
+            demand::all_is_settled(&self.seen, &sent)?;
+            demand::grants_are_due(self.places, &self.seen, &sent)?;
         }
         Ok(())
     }

@@ -1,13 +1,11 @@
 //! One call on one post, held against 01: the number against the table, everything else against
 //! what the list says when it is read the other way.
 
-use crate::checker::{ensure, Check};
+use super::{ensure, hearing, table, Check};
 use crate::frame;
-use crate::hearing;
 use crate::message::{Kind, Message};
 use crate::queue::{Done, Queue};
 use crate::refusal::{number, Refusal};
-use crate::table;
 
 #[derive(Clone, Debug)]
 pub enum Call {

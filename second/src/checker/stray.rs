@@ -1,9 +1,9 @@
 //! Calls that are no part of a good run: short buffers, and frames that are damaged, doubled, out
 //! of order or made up.
 
+use super::one_call::Call;
 use crate::frame;
 use crate::message::{Kind, Message};
-use crate::one_call::Call;
 use crate::queue::Queue;
 use crate::random::Random;
 

@@ -1,7 +1,7 @@
 //! 01's table of refusals once more, row by row: each row says when its number is given, and the
 //! first row that applies is taken. The checker holds every answer of a post against it.
 
-use crate::hearing;
+use super::hearing;
 use crate::message::{Kind, Message};
 use crate::queue::Queue;
 

@@ -1,15 +1,13 @@
 //! Random runs of watched feeders: takes, returns and deliveries in order, with spells in which
 //! some posts are not heard, bursts, drains, and calls that are no part of the run.
 
-use crate::checker::{ensure, Check};
-use crate::one_call::{self, Call};
+use super::one_call::{self, Call};
+use super::summary::Summary;
+use super::watched::Watched;
+use super::{ensure, stray, table, Check};
 use crate::queue::{Phase, Queue};
 use crate::random::Random;
 use crate::refusal::number;
-use crate::stray;
-use crate::summary::Summary;
-use crate::table;
-use crate::watched::Watched;
 
 /// Runs random feeders until at least so many calls are made.
 pub fn check(seed: u64, calls: u64) -> Result<Summary, String> {
