@@ -5,6 +5,8 @@
 
 #include "post.h"
 
+#include <string.h>
+
 enum { RECEIVE, TAKES, RETURNS, VALUE, MISSING, SOUND, CALLS };
 
 static inline uint8_t *put(uint8_t *at, uint64_t n, int width)
@@ -20,6 +22,22 @@ static inline uint64_t get(const uint8_t **at, int width)
     for (int i = 0; i < width; i++)
         n = n << 8 | *(*at)++;
     return n;
+}
+
+/* The frame of a message, and the message of a frame that a post wrote. */
+static inline void put_frame(uint8_t *frame, uint8_t feeder, struct message m)
+{
+    memcpy(frame, "FPM\0\1", 5);
+    frame[5] = feeder;
+    frame[6] = m.kind;
+    frame[7] = m.sender;
+    put(frame + 8, m.counter, 4);
+}
+
+static inline struct message get_frame(const uint8_t *frame)
+{
+    const uint8_t *counter = frame + 8;
+    return (struct message){ frame[6], frame[7], (uint32_t)get(&counter, 4) };
 }
 
 #define PUT(name, bits) at = put(at, from->name, bits / 8);

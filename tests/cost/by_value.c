@@ -1,13 +1,18 @@
 /* The calls by value: the record is copied into the answer and altered there. */
 #include "post.h"
 
+static void note(struct answer *a, uint8_t number, const struct marks *marks)
+{
+    a->number = number;
+    a->wrote = marks->wrote;
+    a->granted = marks->granted;
+}
+
 struct answer value_take(struct post p, uint8_t *buf, size_t size)
 {
     struct answer a = { .post = p };
     struct marks marks;
-    a.number = post_take(&a.post, buf, size, &marks);
-    a.wrote = marks.wrote;
-    a.granted = marks.granted;
+    note(&a, post_take(&a.post, buf, size, &marks), &marks);
     return a;
 }
 
@@ -15,9 +20,7 @@ struct answer value_return(struct post p, uint8_t *buf, size_t size)
 {
     struct answer a = { .post = p };
     struct marks marks;
-    a.number = post_return(&a.post, buf, size, &marks);
-    a.wrote = marks.wrote;
-    a.granted = marks.granted;
+    note(&a, post_return(&a.post, buf, size, &marks), &marks);
     return a;
 }
 
@@ -25,9 +28,7 @@ struct answer value_receive(struct post p, const uint8_t *frame, size_t len, uin
 {
     struct answer a = { .post = p };
     struct marks marks;
-    a.number = post_receive(&a.post, frame, len, buf, size, &marks);
-    a.wrote = marks.wrote;
-    a.granted = marks.granted;
+    note(&a, post_receive(&a.post, frame, len, buf, size, &marks), &marks);
     return a;
 }
 

@@ -27,11 +27,7 @@ static void block_of(uint8_t block[BLOCK], uint8_t call, uint8_t times, const ui
 static void frame_of(uint8_t frame[LENT], uint8_t number, uint8_t kind, uint8_t sender, uint32_t counter)
 {
     memset(frame, 0, LENT);
-    memcpy(frame, "FPM\0\1", 5);
-    frame[5] = number;
-    frame[6] = kind;
-    frame[7] = sender;
-    put(frame + 8, counter, 4);
+    put_frame(frame, number, (struct message){ kind, sender, counter });
 }
 
 /* ---- the rows */
@@ -303,10 +299,8 @@ static void write_random(long n, long every)
         } else if (call == RETURNS) {
             number = post_return(r, buf, FRAME, &marks);
         }
-        if (number == 0 && marks.wrote) {
-            const uint8_t *at = buf + 8;
-            f.sent[f.count++] = (struct message){ buf[6], buf[7], (uint32_t)get(&at, 4) };
-        }
+        if (number == 0 && marks.wrote)
+            f.sent[f.count++] = get_frame(buf);
     }
 }
 

@@ -1,5 +1,5 @@
 /* Document 01's bench over the plain C record, so that the stored nights say whether that record is right. */
-#include "post.h"
+#include "block.h"
 
 #include <stdio.h>
 #include <string.h>
@@ -39,23 +39,18 @@ static int two_in(const char *s, const char *end, int *a, int *b)
 static void keep(const uint8_t *buf, const struct marks *marks)
 {
     if (marks->wrote && count < 256)
-        sent[count++] = (struct message){ buf[6], buf[7],
-                                          (uint32_t)buf[8] << 24 | (uint32_t)buf[9] << 16 | (uint32_t)buf[10] << 8 |
-                                              buf[11] };
+        sent[count++] = get_frame(buf);
 }
 
 static uint8_t deliver(int p, int q, struct marks *marks)
 {
-    uint8_t frame[FRAME] = { 'F', 'P', 'M', 0, 1, 0 }, buf[FRAME];
+    uint8_t frame[FRAME], buf[FRAME];
     size_t i = next_of[p][q];
     while (i < count && sent[i].sender != p)
         i++;
     if (i == count)
         return 15;
-    frame[6] = sent[i].kind;
-    frame[7] = sent[i].sender;
-    for (int j = 0; j < 4; j++)
-        frame[8 + j] = (uint8_t)(sent[i].counter >> 8 * (3 - j));
+    put_frame(frame, 0, sent[i]);
     uint8_t number = post_receive(&posts[q], frame, FRAME, buf, FRAME, marks);
     if (number == 0)
         next_of[p][q] = i + 1;
