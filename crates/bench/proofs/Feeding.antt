@@ -9,12 +9,13 @@ use lib.Dec.{ltb, eqb}
 use lib.ListN.{length, getD, drop, drop-of-length-le}
 use lib.Seq.{sets}
 use Rattle.laws.proofs.ScanLaws.{next-drop}
+use Rattle.text.specs.Puts.{Puts, Lays}
+use Rattle.text.proofs.Putting.{then, spelled}
 use Rattle.bench.specs.declared.Night.{Night}
 use Rattle.bench.specs.declared.Bench.{Bench}
 use Rattle.bench.specs.declared.Turned.{Turned}
-use Rattle.bench.specs.Text.{Puts}
-use Rattle.bench.proofs.Putting.{then, spelled}
 use Rattle.bench.specs.Bench.{Step, writes, isOver, longer, plain, turned, stepped, feeding, Feeding, closing, lastPiece, closed, ending, finished, finishedBytes, Ends, Turns}
+use Rattle.bench.proofs.Lengths.{closing-few}
 
 -- what feed hands back when it stops
 abbrev stopped : Bench → ℕ → ℕ → List ℕ → Feeding
@@ -109,7 +110,11 @@ module _ (b : Bench) (out : List ℕ) where
     unfolding closed
     ends-over z = ends (t .at) mid (rw (ne-eqb (lastPiece b .bench .mode) 1 (λ e. z (sym mode-of ∙ e)), append-nil (lastPiece b .text)) (u .puts))
 
-    pub ends-on : t .bench .mode ≡ 1 → (new : List ℕ) (n : ℕ) → Puts mid new (t .at) (closing (t .bench .places) (t .bench .night)) n
+    pub ends-on : t .bench .mode ≡ 1 → (new : List ℕ) (n : ℕ) → Lays mid new (t .at) (closing (t .bench .places) (t .bench .night)) n
         → Ends (finished b out) (finishedBytes b out) (record { written = n; done = true }) new
     unfolding closed
-    ends-on z new n p = ends n new (rw (eq-eqb (lastPiece b .bench .mode) 1 (mode-of ∙ z)) (then (u .puts) (spelled (λ i. closing (u .bench i .places) (u .bench i .night)) p)))
+    ends-on z new n p =
+        let g = u .going z in
+        let l = u .puts .long in
+        let f = closing-few (t .bench .places) (t .bench .night) in
+        ends n new (rw (eq-eqb (lastPiece b .bench .mode) 1 (mode-of ∙ z)) (then (u .puts) (spelled (λ i. closing (u .bench i .places) (u .bench i .night)) (p .puts (omega arith)))))

@@ -13,7 +13,8 @@ use Rattle.bench.specs.declared.lines.Header.{Header}
 use Rattle.bench.specs.declared.lines.Command.{Command}
 use Rattle.bench.specs.declared.lines.Command.the-variants.{Take, Return, Deliver, Unknown}
 use Rattle.laws.specs.Search.{same, from, pairs}
-use Rattle.bench.specs.Text.{decimal, text}
+use Rattle.text.specs.Decimal.{digits}
+use Rattle.bench.specs.Text.{text}
 use Rattle.bench.specs.Lines.{inside, inRangeFor, everyCommand, commandOf, heading, headerText, headerOf}
 use Rattle.bench.specs.Inside.{digit, numberAt, afterAt, guessCommand, guessHeader, headerFits, Safe}
 use Rattle.laws.proofs.SearchLaws.{in-map, in-pairs, in-from, fixed, first-has, is-guess, no-fit, no-text}
@@ -39,7 +40,7 @@ every-in n (Deliver p q) t =
 every-in n Unknown t = absurd t
 
 every-found : map (λ c. guessCommand (text c)) everyCommand ≡ everyCommand
-unfolding everyCommand from pairs guessCommand numberAt afterAt digit text decimal
+unfolding everyCommand from pairs guessCommand numberAt afterAt digit text digits
 every-found = refl
 
 there : (n : ℕ) (c : Command) → T (inRangeFor n c) → In c (keep (inRangeFor n) everyCommand)
@@ -103,7 +104,7 @@ unfolding all headerFits pairs from
 headers-fit = all-at headerFits headers tt
 
 headers-found : map (λ h. guessHeader (headerText h)) headers ≡ headers
-unfolding from pairs guessHeader numberAt afterAt digit headerText decimal
+unfolding from pairs guessHeader numberAt afterAt digit headerText digits
 headers-found = refl
 
 headers-guessed : (h : Header) → In h headers → guessHeader (headerText h) ≡ h

@@ -20,7 +20,8 @@ use Rattle.bench.specs.declared.lines.Command.{Command}
 use Rattle.bench.specs.declared.lines.Header.{Header}
 use Rattle.bench.specs.declared.lines.Command.the-variants.{Unknown}
 use Rattle.laws.specs.Search.{same, from, pairs}
-use Rattle.bench.specs.Text.{decimal, text}
+use Rattle.text.specs.Decimal.{digits}
+use Rattle.bench.specs.Text.{text}
 use Rattle.bench.specs.Lines.{empty, pushed, kept, inRangeFor, everyCommand, commandOf, heading, headerText, headerOf}
 use Rattle.laws.proofs.SearchLaws.{same→eq, eq→same, first-cong}
 
@@ -74,7 +75,7 @@ same-short w l h =
     fits e = ⊎-elim (λ k. let z = e ∙ min-eq-left k in absurd (omega arith)) (λ k. omega arith) (leb-total 8 (length l))
 
 commands-short : (c : Command) → In c everyCommand → T (ltb (length (text c)) 8)
-unfolding all everyCommand from pairs text decimal
+unfolding all everyCommand from pairs text digits
 commands-short = all-at (λ c. ltb (length (text c)) 8) everyCommand tt
 
 pub command-kept : (n : ℕ) (l : List ℕ) → commandOf n (take 8 l) ≡ commandOf n l
@@ -84,7 +85,7 @@ command-kept n l =
     (λ c i. same-short (text c) l (ltb→lt (length (text c)) 8 (commands-short c (keep-in (inRangeFor n) c everyCommand i .0))))
 
 headers-short : (h : Header) → In h (pairs heading (from 1 16) (from 1 16)) → T (ltb (length (headerText h)) 8)
-unfolding all from pairs headerText decimal
+unfolding all from pairs headerText digits
 headers-short = all-at (λ h. ltb (length (headerText h)) 8) (pairs heading (from 1 16) (from 1 16)) tt
 
 pub header-kept : (l : List ℕ) → headerOf (take 8 l) ≡ headerOf l

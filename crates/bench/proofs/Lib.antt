@@ -1,4 +1,4 @@
-pub mod Putting
+pub mod Lengths
 pub mod Digits
 pub mod Guessing
 pub mod Nights

@@ -16,7 +16,8 @@ use Rattle.bench.specs.declared.lines.Header.{Header}
 use Rattle.bench.specs.declared.lines.Command.{Command}
 use Rattle.bench.specs.declared.lines.Command.the-variants.{Unknown}
 use Rattle.laws.specs.Search.{first, same, from, pairs}
-use Rattle.bench.specs.Text.{decimal, answerLine, badHeader}
+use Rattle.text.specs.Decimal.{digits}
+use Rattle.bench.specs.Text.{answerLine, badHeader}
 use Rattle.bench.specs.Lines.{empty, headerOf, headerText, commandOf}
 use Rattle.bench.specs.Night.{begun, ran}
 use Rattle.bench.specs.Bench.{Step, writes, halted, longer, headed, stops, turned, plain, stepped, closing, lastPiece, closed, ending, unfed}
@@ -224,7 +225,7 @@ heads-run b h xs = go (eqb (h .posts) 0)
     go false = commands-run xs start [] (record { mode = refl; holds = holds-none; few = omega arith; full = λ e. refl })
 
 no-header : nightOf (headerOf []) [] ≡ badHeader
-unfolding headerOf first same pairs from headerText decimal
+unfolding headerOf first same pairs from headerText digits
 no-header = refl
 
 -- a line that ends: the last of the input, or with LF

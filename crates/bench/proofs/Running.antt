@@ -17,8 +17,8 @@ use Rattle.bench.specs.declared.lines.Command.the-variants.{Unknown}
 use Rattle.bench.specs.Text.{badHeader, answerLine}
 use Rattle.bench.specs.Lines.{empty, kept, headerOf, commandOf}
 use Rattle.bench.specs.Night.{begun, ran}
-use Rattle.bench.specs.Bench.{Step, writes, isOver, halted, longer, headed, answers, stops, turned, plain, stepped, Feeding, feeding, Feeds, inPhases, closing, lastPiece, closed, ending, finished, finishedBytes, Turns}
-use Rattle.bench.proofs.Putting.{answer-few, last-few}
+use Rattle.bench.specs.Bench.{Step, writes, isOver, halted, longer, headed, answers, stops, turned, plain, stepped, Feeding, feeding, Feeds, closing, lastPiece, closed, ending, finished, finishedBytes, Turns}
+use Rattle.bench.proofs.Lengths.{answer-few, closing-few}
 use Rattle.bench.proofs.Feeding.{roomy}
 
 -- what bytes write one by one, and then the end of the input
@@ -61,16 +61,12 @@ answers-few b =
     let l = answer-few (b .number + 1) c (ran (b .night) c .number) (ran (b .night) c .granted) in
     (omega arith, λ e. omega arith)
 
-last-line-few : (places : ℕ) (b : Bench) → length (closing places (b .night)) ≤ 32
-unfolding closing
-last-line-few places b = last-few places (inPhases 3 3 (b .night .posts)) (inPhases 1 2 (b .night .posts))
-
-stops-few : (b : Bench) → Few (stops b)
+pub stops-few : (b : Bench) → Few (stops b)
 unfolding stops
 stops-few b =
     let l = length-append (answerLine 257 Unknown 17 false) (closing (b .places) (b .night)) in
     let m = answer-few 257 Unknown 17 false in
-    let n = last-line-few (b .places) b in
+    let n = closing-few (b .places) (b .night) in
     (omega arith, λ e. absurd (omega arith))
 
 turned-few : (b : Bench) → Few (turned b)
@@ -97,7 +93,7 @@ closed-few s f = go (eqb (s .bench .mode) 1) (λ t. eqb→eq (s .bench .mode) 1 
     go : (t : Bool) → (T t → s .bench .mode ≡ 1) → length (s .text ++ cond t (closing (s .bench .places) (s .bench .night)) []) ≤ 64
     go true h =
         let l = length-append (s .text) (closing (s .bench .places) (s .bench .night)) in
-        let m = last-line-few (s .bench .places) (s .bench) in
+        let m = closing-few (s .bench .places) (s .bench .night) in
         let n = f .1 (h tt) in
         omega arith
     go false h = let l = length-append (s .text) [] in let m = f .0 in omega arith

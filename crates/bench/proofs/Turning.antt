@@ -9,6 +9,7 @@ use lib.Dec.{eqb, ltb}
 use lib.ListN.{length, getD}
 use Rattle.laws.specs.Search.{from}
 use Rattle.laws.proofs.Ladders.{on, off}
+use Rattle.text.specs.Puts.{Lays}
 use Rattle.post.specs.declared.Post.{Post}
 use Rattle.bench.specs.declared.Line.{Line}
 use Rattle.bench.specs.declared.Bench.{Bench}
@@ -16,16 +17,12 @@ use Rattle.bench.specs.declared.Turned.{Turned}
 use Rattle.bench.specs.declared.lines.Header.{Header}
 use Rattle.bench.specs.declared.lines.Command.{Command}
 use Rattle.bench.specs.declared.calls.Change.{Change}
-use Rattle.bench.specs.Text.{answerLine, badHeader, Puts}
+use Rattle.bench.specs.Text.{answerLine, badHeader}
 use Rattle.bench.specs.Lines.{empty, kept, headerOf, commandOf}
 use Rattle.bench.specs.Night.{opened, begun, Ran, ran}
 use Rattle.bench.specs.Inside.{calleeOf, pairOf, changed, Changes}
 use Rattle.bench.specs.Bench.{Step, writes, halted, headed, answers, stops, asked, turned, Turns}
-use Rattle.bench.proofs.Putting.{answer-few}
-
--- nothing is put
-pub put-nothing : (old : List ℕ) (at : ℕ) → Puts old old at [] at
-put-nothing old at = record { next-place = omega arith; bytes = refl; long = refl }
+use Rattle.bench.proofs.Lengths.{answer-few}
 
 -- a turn that is another by name
 pub turns-as : {s t : Step} {old new : List ℕ} {at : ℕ} {r : Turned} → s ≡ t → Turns t old new at r → Turns s old new at r
@@ -108,11 +105,12 @@ module _ (b : Bench) (c : Command) (h : Change) (at pair : ℕ) (post : Post) (e
       (λ i. changed (b .night) (k i) (l i) h)
       ∙ m .makes (b .night .posts) (b .night .read) (ap (λ (j : ℕ). getD (b .night .posts) j (opened 0 0 0)) (sym k) ∙ g) (ap (λ (j : ℕ). getD (b .night .read) j 0) (sym l))
 
-  pub asked-turns : asked b ≡ true → (old new : List ℕ) (place end : ℕ) → Puts old new place (answerLine (b .number + 1) c (h .number) (h .granted)) end
+  pub asked-turns : asked b ≡ true → (old new : List ℕ) (place end : ℕ) → place + 64 ≤ length old → Lays old new place (answerLine (b .number + 1) c (h .number) (h .granted)) end
       → Turns (turned b) old new place
       (record { bench = answering b at pair h empty; at = end })
-  asked-turns t old new place end p =
+  asked-turns t old new place end l q =
       let a = asked-is (b .mode) (b .number) t in
       let n = answer-few (b .number + 1) c (h .number) (h .granted) in
+      let p = q .puts (omega arith) in
       let x = p .next-place in
       turns-as (turned-command b (a .0) (a .1) ∙ answers-is b c (changed (b .night) at pair h) e ran-is) (record { bench = refl; puts = p; few = omega arith; going = λ q. omega arith })

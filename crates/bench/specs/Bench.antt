@@ -1,9 +1,10 @@
 -- The bench, fed byte by byte: what each byte does and writes, and what is written at the end of the input.
 use lib.Seq.{sets}
 use Rattle.laws.specs.{Words.{Bool, true, false, not, cond, _&&_, _||_, List, [], _∷_, _++_, _≡_, ℕ, _+_, _-_, _≤_, leb, ltb, eqb, length}, Lists.{many}}
+use Rattle.text.specs.Puts.{Puts}
 use Rattle.post.specs.declared.Post.{Post}
 use Rattle.bench.specs.{declared.Night.{Night}, declared.Bench.{Bench}, declared.Turned.{Turned}, declared.Fed.{Fed}, declared.Finished.{Finished}}
-use Rattle.bench.specs.{declared.lines.Command.the-variants.{Unknown}, Text.{answerLine, badHeader, lastLine, Puts}}
+use Rattle.bench.specs.{declared.lines.Command.the-variants.{Unknown}, Text.{answerLine, badHeader, lastLine}}
 use Rattle.bench.specs.{Lines.{empty, pushed, kept, headerOf, commandOf}, Night.{begun, ran}}
 
 -- how many records are in phases lo to hi

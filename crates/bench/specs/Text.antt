@@ -1,14 +1,11 @@
 -- The texts that the bench reads and writes, as bytes.
-use lib.Seq.{sets}
-use Rattle.laws.specs.Words.{Bool, cond, List, [], _∷_, _++_, _≡_, ℕ, _+_, _/_, _%_, ltb, length}
+use Rattle.laws.specs.Words.{Bool, cond, List, [], _∷_, _++_, ℕ}
+use Rattle.text.specs.Decimal.{digits}
 use Rattle.bench.specs.{declared.lines.Command.{Command}, declared.lines.Command.the-variants.{Take, Return, Deliver, Unknown}}
 
 -- a number below 1000, decimal without leading zeros
-unfoldable pub decimal : ℕ → List ℕ
-decimal n =
-    cond (ltb n 10) ((48 + n) ∷ [])
-    (cond (ltb n 100) ((48 + n / 10) ∷ (48 + n % 10) ∷ [])
-    ((48 + n / 100) ∷ (48 + n / 10 % 10) ∷ (48 + n % 10) ∷ []))
+abbrev pub decimal : ℕ → List ℕ
+decimal n = digits 3 n
 
 -- `T p`, `R p`, `D p q`, and `?` for what is no command
 unfoldable pub text : Command → List ℕ
@@ -32,9 +29,3 @@ lastLine places held waiting =
     ++ (32 ∷ 104 ∷ 101 ∷ 108 ∷ 100 ∷ 32 ∷ decimal held
     ++ (32 ∷ 119 ∷ 97 ∷ 105 ∷ 116 ∷ 105 ∷ 110 ∷ 103 ∷ 32 ∷ decimal waiting
     ++ (10 ∷ [])))
-
--- a text put into a buffer from a place on: the next place, and the bytes then, as many as before
-pub record Puts (old new : List ℕ) (at : ℕ) (text : List ℕ) (next : ℕ) : Type 0 where
-  pub next-place : next ≡ at + length text
-  pub bytes : new ≡ sets old at text
-  pub long : length new ≡ length old

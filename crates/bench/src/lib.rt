@@ -1,7 +1,7 @@
 // The bench as a library: bytes of a night in, bytes of its answers out.
 mod calls;
 mod lines;
-mod text;
+mod writing;
 
 use frame::Message;
 use lines::Command;
@@ -12,7 +12,7 @@ ghost use Prim.Native.Nat.{_≤_, _<_, _+_};
 ghost use lib.Dec.{leb, ltb, eqb};
 ghost use lib.ListN.{length};
 ghost use Rattle.laws.specs.Below.{one?};
-ghost use Rattle.bench.specs.Text.{Puts};
+ghost use Rattle.text.specs.Puts.{Lays};
 ghost use Rattle.bench.specs.Bench.{inPhases, closing, unfed, headed, stops, asked, turned, lastPiece, feeding, Feeds, finished, finishedBytes, Ends, Turns};
 
 // The line being read: its first 8 bytes, and how many of these there are. No text of a command or header has 8.
@@ -90,13 +90,12 @@ fn in_phases(posts: [Post; 16], lo: u8, hi: u8) -> u8
 }
 
 fn last_line(night: Night, places: u8, out: &mut [u8], at: usize) -> usize
-    requires { ⌜ at + 32 ≤ length (now out) ⌝ }
-    ensures { λ r. ⌜ Puts (now (out .entry)) (now (out .exit)) at (closing places night) r × (r ≤ at + 32) ⌝ }
+    ensures { λ r. ⌜ Lays (now (out .entry)) (now (out .exit)) at (closing places night) r ⌝ }
 {
     let posts = night.posts;
     let held = in_phases(posts, 3, 3);
     let waiting = in_phases(posts, 1, 2);
-    text::last(out, at, places, held, waiting)
+    writing::last(out, at, places, held, waiting)
 }
 
 fn is_stop(mode: u8, room: usize) -> bool
@@ -169,7 +168,7 @@ impl Bench {
         let h = lines::read_header(line);
         if h.posts == 0 {
             self.mode = 2;
-            let next = text::bad_header(out, at);
+            let next = writing::bad_header(out, at);
             return Turned {
                 bench: self,
                 at: next,
@@ -192,7 +191,7 @@ impl Bench {
     {
         let night = self.night;
         self.mode = 2;
-        let next = text::answer(out, at, 257, Command::Unknown, 17, false);
+        let next = writing::answer(out, at, 257, Command::Unknown, 17, false);
         let end = last_line(night, self.places, out, next);
         Turned {
             bench: self,
@@ -254,7 +253,7 @@ impl Bench {
                 bench.number = bench.number + 1;
                 bench.mode = 1;
                 bench.line = blank;
-                written = text::answer(out, written, bench.number, c, r.number, r.granted);
+                written = writing::answer(out, written, bench.number, c, r.number, r.granted);
             } else {
                 // In a bench of its own: nothing then reads the night that came in `bench`, and it is not copied.
                 let mut whole = bench;

@@ -1,6 +1,6 @@
 // Lines: the one being read, and what it says.
 use crate::Line;
-use crate::text;
+use crate::writing;
 ghost use mathlib.Core.Path.{_≡_};
 ghost use Prim.Native.Nat.{_≤_, _<_};
 ghost use lib.ListN.{getD};
@@ -184,7 +184,7 @@ fn is_command(line: Line, c: Command) -> bool
     ensures { λ r. ⌜ r ≡ same (text c) (kept line) ⌝ }
 {
     let mut bytes = [0u8; 9];
-    let n = text::command(&mut bytes, 0, c);
+    let n = writing::command(&mut bytes, 0, c);
     is_text(line, &bytes[..n])
 }
 
@@ -192,7 +192,7 @@ fn is_header(line: Line, h: Header) -> bool
     ensures { λ r. ⌜ r ≡ same (headerText h) (kept line) ⌝ }
 {
     let mut bytes = [0u8; 7];
-    let n = text::pair(&mut bytes, 0, h.posts, h.places);
+    let n = writing::pair(&mut bytes, 0, h.posts, h.places);
     is_text(line, &bytes[..n])
 }
 

@@ -30,12 +30,6 @@ then {old} {mid} {new} {s} {t} {at} {a} {b} p q =
 pub spelled : {old new s t : List ℕ} {at next : ℕ} → s ≡ t → Puts old new at s next → Puts old new at t next
 spelled e p = rw (sym e) p
 
--- a text put at the start stands there
-pub put-first : {old new text : List ℕ} {n : ℕ} → Puts old new 0 text n → length text ≤ length old → take n new ≡ text
-put-first {old} {new} {text} {n} p h =
-    let k = p .next-place in
-    ap (λ (i : ℕ). take i new) k ∙ ap (take (0 + length text)) (p .bytes) ∙ take-sets old 0 text (omega arith)
-
 -- ---- what fits
 
 pub room : (old : List ℕ) (at : ℕ) (text : List ℕ) → at + length text ≤ length old → fitting old at text ≡ text
@@ -78,6 +72,13 @@ and-then {old} {mid} {new} {s} {t} {at} {a} {b} p q = record { puts = all; long 
 -- another way to write the text
 pub reworded : {old new s t : List ℕ} {at next : ℕ} → s ≡ t → Lays old new at s next → Lays old new at t next
 reworded e p = rw (sym e) p
+
+-- a text put at the start stands there
+pub stands-first : {old new text : List ℕ} {n : ℕ} → Lays old new 0 text n → length text ≤ length old → (n ≡ length text) × (take n new ≡ text)
+stands-first {old} {new} {text} {n} l h =
+    let p = l .puts (omega arith) in
+    let k = p .next-place in
+    (omega arith, ap (λ (i : ℕ). take i new) k ∙ ap (take (0 + length text)) (p .bytes) ∙ take-sets old 0 text (omega arith))
 
 -- ---- a word, byte by byte
 

@@ -1,11 +1,10 @@
--- `bench::last_line` meets its contract. Assumes nothing.
+-- The posts counted are those of the night. Assumes nothing.
 use borrow.Author.Needs.{needs}
 use Prim.Native.Nat.{ℕ}
 use mathlib.Core.Path.{ap₂}
-use native.Mathlib.Omega.{arith}
+use Rattle.text.proofs.Putting.{reworded}
 use Rattle.bench.specs.Text.{lastLine}
 use Rattle.bench.specs.Bench.{closing}
-use Rattle.bench.proofs.Putting.{spelled, last-few}
 use Rattle.bench.proofs.last_line.Statement.{statement}
 use Rattle.bench.proofs.last_line.Tie as tie
 
@@ -25,10 +24,7 @@ returns : tie.Need-returns
 unfolding closing
 returns c =
     let a = c .before .before .before .before .before .before .before .before .args in
-    let p = c .before .before .last .ensures in (
-      spelled (ap₂ (λ (h w : ℕ). lastLine (a .places) h w) (c .before .before .before .before .before .in-phases .ensures) (c .before .before .before .before .in-phases2 .ensures)) p,
-      omega (arith, last-few (a .places) (c .before .before .before .before .before .in-phases .result) (c .before .before .before .before .in-phases2 .result)),
-    )
+    reworded (ap₂ (λ (h w : ℕ). lastLine (a .places) h w) (c .before .before .before .before .before .in-phases .ensures) (c .before .before .before .before .in-phases2 .ensures)) (c .before .before .last .ensures)
 
 pub last-line-spec : {M : Type 1} → statement M
 last-line-spec =

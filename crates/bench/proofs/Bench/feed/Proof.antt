@@ -113,8 +113,7 @@ answer-requires c κs =
     let w = c .before .before .before .before .before .before .before .before .before .before .before .before .before .before .before .before .before .before .before .before .before .loop in
     let h = asked-is (w .bench .mode) (w .bench .number) (sym (c .before .before .before .before .before .before .before .before .before .before .before .before .before .is-asked .ensures) ∙ c .before .before .before .before .before .before .before .before .before .before .before .before .if3 .taken) in
     let n = h .1 in
-    let l = roomy (holding (w .night) (w .bench)) (w .written) (w .out) (sym (c .before .before .before .before .before .before .before .before .before .before .before .before .before .before .before .before .before .before .before .is-stop .ensures) ∙ c .before .before .before .before .before .before .before .before .before .before .before .before .before .before .before .before .before .before .if1 .left) in
-    (omega arith, omega arith)
+    omega arith
 
 turn-requires : tie.Need-turn-requires Inv-loop μ-loop
 turn-requires c κs =
@@ -157,7 +156,7 @@ loop-again c =
     let u =
     subst (λ (o : List ℕ). Turns (turned b) (w .out) o (w .written) (record { bench = next empty; at = v .15 .result })) (sym (v .18))
     (asked-turns b (v .3 .result) (v .9 .result) (v .4 .result) (v .5 .result) _ (v .3 .ensures) (v .4 .ensures .0) (v .5 .ensures .0) post (v .9 .ensures)
-    (sym (v .1 .ensures) ∙ v .2 .taken) (w .out) _ (w .written) (v .15 .result) (v .15 .ensures)) in (
+    (sym (v .1 .ensures) ∙ v .2 .taken) (w .out) _ (w .written) (v .15 .result) (omega arith) (v .15 .ensures)) in (
       (let x = v .21 in let y = u .few in let z = u .puts .long in omega arith),
       u .puts .long ∙ w .inv .1,
       (λ i. length (v .20 i .posts)) ∙ length-set (w .night .posts) (v .4 .result) (v .9 .result .post) ∙ w .inv .2,

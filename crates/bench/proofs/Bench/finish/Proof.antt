@@ -1,6 +1,5 @@
 -- `bench::Bench::finish` meets its contract. Assumes nothing.
 use borrow.Author.Needs.{needs}
-use native.Mathlib.Omega.{arith}
 use denote.Ref.{now}
 use Rattle.bench.proofs.Feeding.{no-room, was-over, ends-over, ends-on}
 use Rattle.bench.proofs.Bench.finish.Statement.{statement}
@@ -22,17 +21,13 @@ returns-3 : tie.Need-returns-3
 returns-3 c = ends-over (c .before .before .before .before .before .before .before .before .before .before .before .args .self) (now (c .before .before .before .before .before .before .before .before .before .before .before .args .out)) (c .before .before .before .before .before .before .before .before .before .if1 .left) (c .before .before .before .before .before .before .before .if2 .left) (c .before .before .before .before .before .last-piece .result) _ (c .before .before .before .before .before .last-piece .ensures) (c .if3 .taken)
 
 last-line-requires : tie.Need-last-line-requires
-last-line-requires c κs =
-    let u = c .before .before .before .before .before .before .before .last-piece .ensures in
-    let g = u .going (c .before .before .if3 .left) in
-    let l = u .puts .long in
-    omega arith
+last-line-requires c κs = search needs
 
 same-length-2 : tie.Need-same-length-2
 same-length-2 c = search needs
 
 returns-4 : tie.Need-returns-4
-returns-4 c = ends-on (c .before .before .before .before .before .before .before .before .before .before .before .before .before .before .before .before .args .self) (now (c .before .before .before .before .before .before .before .before .before .before .before .before .before .before .before .before .args .out)) (c .before .before .before .before .before .before .before .before .before .before .before .before .before .before .if1 .left) (c .before .before .before .before .before .before .before .before .before .before .before .before .if2 .left) (c .before .before .before .before .before .before .before .before .before .before .last-piece .result) _ (c .before .before .before .before .before .before .before .before .before .before .last-piece .ensures) (c .before .before .before .before .before .if3 .left) _ _ (c .before .before .last-line .ensures .0)
+returns-4 c = ends-on (c .before .before .before .before .before .before .before .before .before .before .before .before .before .before .before .before .args .self) (now (c .before .before .before .before .before .before .before .before .before .before .before .before .before .before .before .before .args .out)) (c .before .before .before .before .before .before .before .before .before .before .before .before .before .before .if1 .left) (c .before .before .before .before .before .before .before .before .before .before .before .before .if2 .left) (c .before .before .before .before .before .before .before .before .before .before .last-piece .result) _ (c .before .before .before .before .before .before .before .before .before .before .last-piece .ensures) (c .before .before .before .before .before .if3 .left) _ _ (c .before .before .last-line .ensures)
 
 pub finish-spec : {M : Type 1} → statement M
 finish-spec =

@@ -2,7 +2,8 @@
 use borrow.Author.Needs.{needs}
 use mathlib.Core.Path.{refl}
 use native.Mathlib.Omega.{arith}
-use Rattle.bench.proofs.Turning.{put-nothing, turns-as, headed-bad, headed-good}
+use Rattle.text.proofs.Putting.{nothing}
+use Rattle.bench.proofs.Turning.{turns-as, headed-bad, headed-good}
 use Rattle.bench.proofs.Bench.head.Statement.{statement}
 use Rattle.bench.proofs.Bench.head.Tie as tie
 
@@ -18,7 +19,7 @@ same-length c = search needs
 returns : tie.Need-returns
 returns c =
     let a = c .before .before .before .before .before .before .before .before .before .args in
-    let p = c .before .before .bad-header .ensures in
+    let p = c .before .before .bad-header .ensures .puts (omega arith) in
     turns-as (headed-bad (a .self) (c .before .before .before .before .before .before .read-header .result) (c .before .before .before .before .before .before .read-header .ensures) (c .before .before .before .before .if1 .taken)) (record { bench = refl; puts = p; few = omega arith; going = λ e. absurd (omega arith) })
 
 begin-requires : tie.Need-begin-requires
@@ -32,7 +33,7 @@ returns-2 c =
     let a = c .before .before .before .before .before .before .before .args in
     let h = c .before .before .before .before .read-header .result in
     turns-as (headed-good (a .self) h (c .before .before .before .before .read-header .ensures) (c .before .before .if1 .left))
-    (record { bench = λ i. record { night = c .before .begin .ensures i; posts = h .posts; places = h .places; number = 0; mode = 1; line = c .empty .ensures i }; puts = put-nothing _ _; few = omega arith; going = λ e. omega arith })
+    (record { bench = λ i. record { night = c .before .begin .ensures i; posts = h .posts; places = h .places; number = 0; mode = 1; line = c .empty .ensures i }; puts = nothing _ _; few = omega arith; going = λ e. omega arith })
 
 pub head-spec : {M : Type 1} → statement M
 head-spec =

@@ -3,7 +3,8 @@ use borrow.Author.Needs.{needs}
 use mathlib.Core.Path.{refl, _∙_, sym}
 use native.Mathlib.Omega.{arith}
 use denote.Ref.{now}
-use Rattle.bench.proofs.Turning.{put-nothing, turns-as}
+use Rattle.text.proofs.Putting.{nothing}
+use Rattle.bench.proofs.Turning.{turns-as}
 use Rattle.bench.proofs.Feeding.{pending, none-pending}
 use Rattle.bench.proofs.Running.{fed-line}
 use Rattle.bench.proofs.Bench.last_piece.Statement.{statement}
@@ -30,7 +31,7 @@ returns c =
 returns-2 : tie.Need-returns-2
 returns-2 c =
     turns-as (none-pending (c .before .before .before .before .args .self) (sym (c .before .is-pending .ensures) ∙ c .if1 .left))
-    (record { bench = refl; puts = put-nothing _ _; few = omega arith; going = λ e. omega arith })
+    (record { bench = refl; puts = nothing _ _; few = omega arith; going = λ e. omega arith })
 
 pub last-piece-spec : {M : Type 1} → statement M
 last-piece-spec =

@@ -7,7 +7,8 @@ use native.Mathlib.Omega.{arith}
 use lib.Seq.{length-take-le}
 use Rattle.laws.specs.Search.{same}
 use Rattle.bench.specs.Lines.{kept}
-use Rattle.bench.proofs.Putting.{put-first, text-few}
+use Rattle.text.proofs.Putting.{stands-first}
+use Rattle.bench.proofs.Lengths.{text-few}
 use Rattle.bench.proofs.lines.is_command.Statement.{statement}
 use Rattle.bench.proofs.lines.is_command.Tie as tie
 
@@ -18,16 +19,20 @@ command-requires : tie.Need-command-requires
 command-requires c κs = search needs
 
 array-share-prefix-bytes : tie.Need-array-share-prefix-bytes
-array-share-prefix-bytes c = omega (arith, text-few (c .before .before .before .args .c))
+array-share-prefix-bytes c = let l = text-few (c .before .before .before .args .c) in let n = stands-first (c .before .command .ensures) l .0 in omega arith
 
 slice-aggregate-is-text : tie.Need-slice-aggregate-is-text
-slice-aggregate-is-text c = sym (length-take-le (c .before .before .command .result) (c .before .before .command .last .0) (omega (arith, text-few (c .before .before .before .before .args .c))))
+slice-aggregate-is-text c =
+    let l = text-few (c .before .before .before .before .args .c) in
+    let p = c .before .before .command in
+    let n = stands-first (p .ensures) l .0 in
+    sym (length-take-le (p .result) (p .last .0) (omega arith))
 
 is-text-requires : tie.Need-is-text-requires
 is-text-requires c κs = search needs
 
 returns : tie.Need-returns
-returns c = c .is-text .ensures ∙ ap (λ (s : List ℕ). same s (kept (c .before .before .before .before .before .args .line))) (put-first (c .before .before .before .command .ensures) (text-few (c .before .before .before .before .before .args .c)))
+returns c = c .is-text .ensures ∙ ap (λ (s : List ℕ). same s (kept (c .before .before .before .before .before .args .line))) (stands-first (c .before .before .before .command .ensures) (text-few (c .before .before .before .before .before .args .c)) .1)
 
 pub is-command-spec : {M : Type 1} → statement M
 is-command-spec =

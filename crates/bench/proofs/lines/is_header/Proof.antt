@@ -7,7 +7,8 @@ use native.Mathlib.Omega.{arith}
 use lib.Seq.{length-take-le}
 use Rattle.laws.specs.Search.{same}
 use Rattle.bench.specs.Lines.{kept, headerText}
-use Rattle.bench.proofs.Putting.{put-first, pair-few}
+use Rattle.text.proofs.Putting.{stands-first}
+use Rattle.bench.proofs.Lengths.{pair-few}
 use Rattle.bench.proofs.lines.is_header.Statement.{statement}
 use Rattle.bench.proofs.lines.is_header.Tie as tie
 
@@ -18,17 +19,21 @@ pair-requires : tie.Need-pair-requires
 pair-requires c κs = search needs
 
 array-share-prefix-bytes : tie.Need-array-share-prefix-bytes
-array-share-prefix-bytes c = omega (arith, pair-few (c .before .before .before .args .h .posts) (c .before .before .before .args .h .places))
+array-share-prefix-bytes c = let l = pair-few (c .before .before .before .args .h .posts) (c .before .before .before .args .h .places) in let n = stands-first (c .before .pair .ensures) l .0 in omega arith
 
 slice-aggregate-is-text : tie.Need-slice-aggregate-is-text
-slice-aggregate-is-text c = sym (length-take-le (c .before .before .pair .result) (c .before .before .pair .last .0) (omega (arith, pair-few (c .before .before .before .before .args .h .posts) (c .before .before .before .before .args .h .places))))
+slice-aggregate-is-text c =
+    let l = pair-few (c .before .before .before .before .args .h .posts) (c .before .before .before .before .args .h .places) in
+    let p = c .before .before .pair in
+    let n = stands-first (p .ensures) l .0 in
+    sym (length-take-le (p .result) (p .last .0) (omega arith))
 
 is-text-requires : tie.Need-is-text-requires
 is-text-requires c κs = search needs
 
 returns : tie.Need-returns
 unfolding headerText
-returns c = c .is-text .ensures ∙ ap (λ (s : List ℕ). same s (kept (c .before .before .before .before .before .args .line))) (put-first (c .before .before .before .pair .ensures) (pair-few (c .before .before .before .before .before .args .h .posts) (c .before .before .before .before .before .args .h .places)))
+returns c = c .is-text .ensures ∙ ap (λ (s : List ℕ). same s (kept (c .before .before .before .before .before .args .line))) (stands-first (c .before .before .before .pair .ensures) (pair-few (c .before .before .before .before .before .args .h .posts) (c .before .before .before .before .before .args .h .places)) .1)
 
 pub is-header-spec : {M : Type 1} → statement M
 is-header-spec =

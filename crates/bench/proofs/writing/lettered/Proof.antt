@@ -1,8 +1,8 @@
--- `bench::text::lettered` meets its contract. Assumes nothing.
+-- The letter, the space and the number are one text. Assumes nothing.
 use borrow.Author.Needs.{needs}
-use Rattle.bench.proofs.Putting.{then}
-use Rattle.bench.proofs.text.lettered.Statement.{statement}
-use Rattle.bench.proofs.text.lettered.Tie as tie
+use Rattle.text.proofs.Putting.{lays, and-then}
+use Rattle.bench.proofs.writing.lettered.Statement.{statement}
+use Rattle.bench.proofs.writing.lettered.Tie as tie
 
 byte-requires : tie.Need-byte-requires
 byte-requires c κs = search needs
@@ -17,7 +17,7 @@ same-length : tie.Need-same-length
 same-length c = search needs
 
 returns : tie.Need-returns
-returns c = then (c .before .before .before .before .before .before .before .before .before .before .byte .ensures) (then (c .before .before .before .before .before .before .byte2 .ensures) (c .before .before .number .ensures))
+returns c = and-then (lays (c .before .before .before .before .before .before .before .before .before .before .byte .ensures)) (and-then (lays (c .before .before .before .before .before .before .byte2 .ensures)) (c .before .before .number .ensures))
 
 pub lettered-spec : {M : Type 1} → statement M
 lettered-spec =

@@ -1,10 +1,10 @@
--- `bench::text::command` meets its contract, by cases. Assumes nothing.
+-- Each kind of command has its own parts, put one after the other. Assumes nothing.
 use borrow.Author.Needs.{needs}
 use mathlib.Core.Path.{ap, sym}
 use Rattle.bench.specs.Text.{text}
-use Rattle.bench.proofs.Putting.{then, spelled}
-use Rattle.bench.proofs.text.command.Statement.{statement}
-use Rattle.bench.proofs.text.command.Tie as tie
+use Rattle.text.proofs.Putting.{lays, and-then, reworded}
+use Rattle.bench.proofs.writing.command.Statement.{statement}
+use Rattle.bench.proofs.writing.command.Tie as tie
 
 enum-known-c : tie.Need-enum-known-c
 enum-known-c c = search needs
@@ -41,28 +41,28 @@ same-length c = search needs
 
 returns : tie.Need-returns
 unfolding text
-returns c = spelled (ap text (sym (c .before .before .before .before .before .c .given .1))) (c .before .before .lettered .ensures)
+returns c = reworded (ap text (sym (c .before .before .before .before .before .c .given .1))) (c .before .before .lettered .ensures)
 
 same-length-2 : tie.Need-same-length-2
 same-length-2 c = search needs
 
 returns-2 : tie.Need-returns-2
 unfolding text
-returns-2 c = spelled (ap text (sym (c .before .before .before .before .before .c2 .given .1))) (c .before .before .lettered2 .ensures)
+returns-2 c = reworded (ap text (sym (c .before .before .before .before .before .c2 .given .1))) (c .before .before .lettered2 .ensures)
 
 same-length-3 : tie.Need-same-length-3
 same-length-3 c = search needs
 
 returns-3 : tie.Need-returns-3
 unfolding text
-returns-3 c = spelled (ap text (sym (c .before .before .before .before .before .before .before .before .before .before .before .before .before .c3 .given .1))) (then (c .before .before .before .before .before .before .before .before .before .before .byte .ensures) (then (c .before .before .before .before .before .before .byte2 .ensures) (c .before .before .pair .ensures)))
+returns-3 c = reworded (ap text (sym (c .before .before .before .before .before .before .before .before .before .before .before .before .before .c3 .given .1))) (and-then (lays (c .before .before .before .before .before .before .before .before .before .before .byte .ensures)) (and-then (lays (c .before .before .before .before .before .before .byte2 .ensures)) (c .before .before .pair .ensures)))
 
 same-length-4 : tie.Need-same-length-4
 same-length-4 c = search needs
 
 returns-4 : tie.Need-returns-4
 unfolding text
-returns-4 c = spelled (ap text (sym (c .before .before .before .before .enum-told .given .1))) (c .before .before .byte3 .ensures)
+returns-4 c = reworded (ap text (sym (c .before .before .before .before .enum-told .given .1))) (lays (c .before .before .byte3 .ensures))
 
 pub command-spec : {M : Type 1} → statement M
 command-spec =
