@@ -1,4 +1,4 @@
--- Decimal digits one by one: the first of few, and the last of more; how many there are. Assumes nothing.
+-- Decimal digits one by one, from the last to the first; how many there are, and that room for more changes nothing. Assumes nothing.
 use mathlib.Core.Path.{_≡_, refl, ap, _∙_, sym}
 use mathlib.Core.Logic.{⊎-elim}
 use mathlib.Core.List.{List, [], _∷_, _++_, append-nil, append-assoc}

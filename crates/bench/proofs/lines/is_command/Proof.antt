@@ -1,4 +1,4 @@
--- `bench::lines::is_command` meets its contract: the text is put into a buffer of its own. Assumes nothing.
+-- The command's text is put into a buffer of its own, which has room for it, and compared. Assumes nothing.
 use borrow.Author.Needs.{needs}
 use Prim.Native.Nat.{ℕ}
 use mathlib.Core.Path.{ap, _∙_, sym}
