@@ -9,11 +9,11 @@ pub mod SumLaws
 pub mod CountLaws
 pub mod SetLaws
 pub mod IntLaws
+pub mod EveryLaws
 pub mod RefusalLaws
 pub mod BitLaws
 pub mod ShiftLaws
 pub mod Counting
-pub mod SumBounds
 pub mod StoreLaws
 pub mod LaidLaws
 pub mod SearchLaws

@@ -2,11 +2,11 @@
 use mathlib.Core.Path.{_≡_, refl, sym, ap, _∙_, subst}
 use mathlib.Core.Logic.{_⊎_, inl, inr, ⊎-elim}
 use mathlib.Core.Bool.{Bool, true, false, not, cond, _&&_, and-true, and-false}
-use mathlib.Core.List.{List, [], _∷_, _++_, append-assoc, append-nil}
+use mathlib.Core.List.{List, [], _∷_, _++_, map, append-assoc, append-nil}
 use Prim.Native.Nat.{ℕ, _+_, _≤_, _<_}
 use native.Mathlib.Omega.{arith}
 use lib.Dec.{T, T-not, eqb}
-use lib.ListN.{length, drop, length-append}
+use lib.ListN.{length, drop, length-append, length-map}
 use lib.Seq.{drop-append-seam}
 use lib.Ieee.Bits.{is-true, is-false}
 use Rattle.laws.specs.Below.{sumTo, one?}
@@ -156,3 +156,7 @@ module _ {A : Type 0} (who : A → ℕ) (n : ℕ) (g : A → Bool) where
       let d = first x (h x (inl refl)) in
       let e = many-cons g x xs in
       omega arith
+
+-- the length of an array of structs, from the list of what it denotes
+pub length-mapped : (X Y : Type 0) (f : X → Y) (l : List X) (n : ℕ) → length (map f l) ≡ n → length l ≡ n
+length-mapped X Y f l n e = sym (length-map l f) ∙ e

@@ -1,4 +1,4 @@
--- Sums over the numbers below n: changed at one place, and bounded. Assumes nothing.
+-- Sums over the numbers below n: changed at one place, bounded, and over more numbers. Assumes nothing.
 use mathlib.Core.Path.{_≡_, refl, sym, ap}
 use mathlib.Core.Bool.{cond}
 use Prim.Native.Nat.{ℕ, zero, suc, _+_, _*_, _≤_, _<_}
@@ -34,3 +34,25 @@ pub sumTo-most : (n c : ℕ) (f : ℕ → ℕ) → ((i : ℕ) → i < n → f i 
 unfolding sumTo
 sumTo-most zero c f h = omega arith
 sumTo-most (suc n) c f h = let a = h n (omega arith) in let b = sumTo-most n c f (λ i l. h i (omega arith)) in let e = suc-mul n c in omega arith
+
+-- d less at k
+pub sumTo-but : (n k c d : ℕ) (f : ℕ → ℕ) → k < n → f k + d ≤ c → ((i : ℕ) → i < n → (i ≡ k → ⊥) → f i ≤ c) → sumTo n f + d ≤ n * c
+sumTo-but n k c d f l h rest =
+    let a = sumTo-point n k d f l in
+    let b = sumTo-most n c (λ i. cond (eqb k i) d 0 + f i) each in
+    omega arith
+  where
+    each : (i : ℕ) → i < n → cond (eqb k i) d 0 + f i ≤ c
+    each i j =
+        test (eqb k i)
+        (λ y. let e = eqb→eq k i y in let u = ap f e in rw (eq-eqb k i e) (omega arith))
+        (λ y. let z = neqb→ne k i y in let u = rest i j (λ e. z (sym e)) in rw (ne-eqb k i z) (omega arith))
+
+-- over more numbers
+pub sumTo-grows : (n m : ℕ) (f : ℕ → ℕ) → n ≤ m → sumTo n f ≤ sumTo m f
+unfolding sumTo
+sumTo-grows n zero f h = rw (let e : n ≡ 0 = omega arith in e) (omega arith)
+sumTo-grows n (suc m) f h =
+    test (eqb n (suc m))
+    (λ y. rw (eqb→eq n (suc m) y) (omega arith))
+    (λ y. let d = neqb→ne n (suc m) y in let r = sumTo-grows n m f (omega arith) in omega arith)
