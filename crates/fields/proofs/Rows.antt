@@ -11,7 +11,7 @@ use lib.Seq.{drop-drop}
 use Rattle.laws.specs.Big.{toBe, total, fieldsIn, fieldBytes}
 use Rattle.laws.proofs.Tests.{and-l, and-r}
 use Rattle.laws.proofs.BigLaws.{length-toBe}
-use Rattle.laws.proofs.LaidLaws.{laid, laid-upto, laid-after}
+use Rattle.laws.proofs.LaidLaws.{laid-upto, laid-after}
 use Rattle.fields.specs.Field.{lies, fieldAt, withField}
 use Rattle.fields.proofs.FieldLaws.{loaded, stored, length-stays}
 

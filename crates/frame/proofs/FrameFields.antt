@@ -9,7 +9,7 @@ use Rattle.laws.proofs.Tests.{cond-both}
 use Rattle.laws.proofs.BigLaws.{fields-back, fields-fit}
 use Rattle.frame.specs.declared.Message.{Message}
 use Rattle.frame.specs.declared.Fields.{Fields}
-use Rattle.frame.specs.Frame.{mark, widths, frame, fieldsFrom, fieldsOf}
+use Rattle.frame.specs.Frame.{mark, widths, size, frame, fieldsFrom, fieldsOf}
 use Rattle.frame.proofs.Frames.{InWidth}
 
 pub frame-fields : (f : ℕ) (m : Message) → InWidth f m → fieldsOf (frame f m) ≡ record { mark = mark; version = 1; feeder = f; message = m }
@@ -21,6 +21,6 @@ frame-fields f m h =
 pub counter-fits : (s : List ℕ) → Bytes s → fieldsOf s .message .counter < 256 ^ 4
 unfolding fieldsOf
 counter-fits s h =
-    cond-both {A = Fields} (λ f. f .message .counter < 256 ^ 4) (eqb (length s) 12) (fieldsFrom (fieldsIn widths s)) (fieldsFrom [])
-    (λ y. fields-fit widths s h (eqb→eq (length s) 12 y) .1 .1 .1 .1 .1 .0)
+    cond-both {A = Fields} (λ f. f .message .counter < 256 ^ 4) (eqb (length s) size) (fieldsFrom (fieldsIn widths s)) (fieldsFrom [])
+    (λ y. fields-fit widths s h (eqb→eq (length s) size y) .1 .1 .1 .1 .1 .0)
     (λ n. lit< tt)

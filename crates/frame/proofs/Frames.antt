@@ -14,7 +14,7 @@ use Rattle.laws.proofs.Ladders.{on, quiet, unrefused}
 use Rattle.frame.specs.declared.Message.{Message}
 use Rattle.frame.specs.declared.Fields.{Fields}
 use Rattle.frame.specs.Message.{blank}
-use Rattle.frame.specs.Frame.{mark, widths, frame, fieldsFrom, fieldsOf, messageRows, readRows, reading, readFrame, writeRows, writeNo, bytesAfter}
+use Rattle.frame.specs.Frame.{mark, widths, size, frame, fieldsFrom, fieldsOf, messageRows, readRows, reading, readFrame, writeRows, writeNo, bytesAfter}
 
 -- the numbers have the widths of the code's arguments
 pub record InWidth (f : ℕ) (m : Message) : Type 0 where
@@ -27,13 +27,13 @@ pub record InWidth (f : ℕ) (m : Message) : Type 0 where
 abbrev pub WrittenReadsBack : Type 0
 WrittenReadsBack =
     (old : List ℕ) (f : ℕ) (m : Message) → InWidth f m → writeNo old m ≡ 0
-    → readFrame (take 12 (bytesAfter old f m)) ≡ record { number = 0; feeder = f; message = m }
+    → readFrame (take size (bytesAfter old f m)) ≡ record { number = 0; feeder = f; message = m }
 
 -- an accepted frame is the frame of what it reads as, and that can be written
 abbrev pub AcceptedIsFrame : Type 0
 AcceptedIsFrame =
     (s : List ℕ) → Bytes s → readFrame s .number ≡ 0
-    → (s ≡ frame (readFrame s .feeder) (readFrame s .message)) × (refusal (writeRows 12 (readFrame s .message)) ≡ 0)
+    → (s ≡ frame (readFrame s .feeder) (readFrame s .message)) × (refusal (writeRows size (readFrame s .message)) ≡ 0)
 
 -- so two accepted frames that read alike are the same bytes
 abbrev pub OneFrame : Type 0
@@ -45,19 +45,19 @@ back : (f : ℕ) (m : Message) → InWidth f m → refusal (messageRows m) ≡ 0
 unfolding readFrame readRows fieldsOf frame
 back f m h e =
     let vs : List ℕ = mark ∷ 1 ∷ f ∷ m .kind ∷ m .sender ∷ m .counter ∷ [] in
-    ap (λ (v : List ℕ). reading (refusal (readRows 12 (fieldsFrom v))) (fieldsFrom v))
+    ap (λ (v : List ℕ). reading (refusal (readRows size (fieldsFrom v))) (fieldsFrom v))
     (fields-back widths vs (lit< tt, (lit< tt, (h .feeder, (h .kind, (h .sender, (h .counter, tt)))))))
     ∙ sym (on (eqb (refusal (messageRows m)) 0) _ _ (eq-eqb _ 0 e) refl)
 
-length-frame : (f : ℕ) (m : Message) → length (frame f m) ≡ 12
+length-frame : (f : ℕ) (m : Message) → length (frame f m) ≡ size
 unfolding frame
 length-frame f m = refl
 
 pub written-reads-back : WrittenReadsBack
 unfolding writeRows bytesAfter
 written-reads-back old f m h e =
-    ap (λ (s : List ℕ). readFrame (take 12 s)) (sym (on (eqb (writeNo old m) 0) _ _ (eq-eqb _ 0 e) refl))
-    ∙ ap readFrame (take-at (frame f m) (drop 12 old) 12 (length-frame f m))
+    ap (λ (s : List ℕ). readFrame (take size s)) (sym (on (eqb (writeNo old m) 0) _ _ (eq-eqb _ 0 e) refl))
+    ∙ ap readFrame (take-at (frame f m) (drop size old) size (length-frame f m))
     ∙ back f m h (unrefused (messageRows m) (quiet (writeRows (length old) m) tt e .1))
 
 accepted : (n : ℕ) (f : Fields) → reading n f .number ≡ 0 → n ≡ 0
@@ -69,7 +69,7 @@ accepted n f = go (eqb n 0) refl
 
 -- what an accepted frame passed
 pub record Passed (s : List ℕ) : Type 0 where
-  pub whole : length s ≡ 12
+  pub whole : length s ≡ size
   pub marked : fieldsOf s .mark ≡ mark
   pub version : fieldsOf s .version ≡ 1
   pub message : refusal (messageRows (fieldsOf s .message)) ≡ 0
@@ -82,7 +82,7 @@ has-passed s e =
     let z : refusal (readRows (length s) f) ≡ 0 = accepted (refusal (readRows (length s) f)) f e in
     let q = quiet (readRows (length s) f) tt z in
     record {
-      whole = eqb-true (length s) 12 (not-false _ (q .0));
+      whole = eqb-true (length s) size (not-false _ (q .0));
       marked = eqb-true (f .mark) mark (not-false _ (q .1 .0));
       version = eqb-true (f .version) 1 (not-false _ (q .1 .1 .0));
       message = unrefused (messageRows (f .message)) (q .1 .1 .1);
@@ -93,9 +93,9 @@ has-passed s e =
 abbrev numbers : Fields → List ℕ
 numbers f = f .mark ∷ f .version ∷ f .feeder ∷ f .message .kind ∷ f .message .sender ∷ f .message .counter ∷ []
 
-of-numbers : (s : List ℕ) → length s ≡ 12 → fieldsIn widths s ≡ numbers (fieldsOf s)
+of-numbers : (s : List ℕ) → length s ≡ size → fieldsIn widths s ≡ numbers (fieldsOf s)
 unfolding fieldsOf
-of-numbers s e = ap numbers (on (eqb (length s) 12) (fieldsFrom (fieldsIn widths s)) (fieldsFrom []) (eq-eqb _ 12 e) refl)
+of-numbers s e = ap numbers (on (eqb (length s) size) (fieldsFrom (fieldsIn widths s)) (fieldsFrom []) (eq-eqb _ size e) refl)
 
 pub accepted-is-frame : AcceptedIsFrame
 unfolding writeRows frame
@@ -108,7 +108,7 @@ accepted-is-frame s h e =
           ∙ ap (fieldBytes widths) (of-numbers s (p .whole))
           ∙ (λ i. fieldBytes widths (p .marked i ∷ p .version i ∷ f .feeder ∷ m .kind ∷ m .sender ∷ m .counter ∷ []))
           ∙ (λ i. frame (r i .feeder) (r i .message)),
-      (λ i. refusal (writeRows 12 (p .read i .message))) ∙ p .message,
+      (λ i. refusal (writeRows size (p .read i .message))) ∙ p .message,
     )
 
 pub one-frame : OneFrame

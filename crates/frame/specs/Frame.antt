@@ -1,30 +1,34 @@
 -- Frames: their bytes, and what reading and writing one give.
-use Rattle.laws.specs.{Words.{not, cond, List, [], _∷_, _++_, _≡_, ℕ, ltb, eqb, length, getD, drop}, Big.{fieldsIn, fieldBytes}, Ladder.{Row, _when_, refusal}}
+use Rattle.laws.specs.{Words.{not, cond, List, [], _∷_, _++_, _≡_, ℕ, ltb, eqb, length, getD, drop}, Big.{total, fieldsIn, fieldBytes}, Ladder.{Row, _when_, refusal}}
 use Rattle.frame.specs.{declared.Message.{Message}, declared.Fields.{Fields}, declared.Reading.{Reading}, Message.{msg, blank, known}}
 
 -- the bytes 46 50 4D
 abbrev pub mark : ℕ
 mark = 0x46504d
 
--- the widths of mark, version, feeder, kind, sender, counter: 12 bytes
+-- the widths of mark, version, feeder, kind, sender, counter
 abbrev pub widths : List ℕ
 widths = 3 ∷ 2 ∷ 1 ∷ 1 ∷ 1 ∷ 4 ∷ []
+
+-- the bytes of a frame, 12
+abbrev pub size : ℕ
+size = total widths
 
 -- the frame of a message on a feeder
 unfoldable pub frame : ℕ → Message → List ℕ
 frame feeder m = fieldBytes widths (mark ∷ 1 ∷ feeder ∷ m .kind ∷ m .sender ∷ m .counter ∷ [])
 
--- a frame over the first 12 bytes; later bytes stay
+-- a frame over the first bytes; later bytes stay
 abbrev pub over : ℕ → Message → List ℕ → List ℕ
-over feeder m old = frame feeder m ++ drop 12 old
+over feeder m old = frame feeder m ++ drop size old
 
 abbrev pub fieldsFrom : List ℕ → Fields
 fieldsFrom v =
     record { mark = getD v 0 0; version = getD v 1 0; feeder = getD v 2 0; message = msg (getD v 3 0) (getD v 4 0) (getD v 5 0) }
 
--- what stands in the fields of 12 bytes; zeros where there are not 12
+-- what stands in the fields of a frame's bytes; zeros where there are not as many
 unfoldable pub fieldsOf : List ℕ → Fields
-fieldsOf s = cond (eqb (length s) 12) (fieldsFrom (fieldsIn widths s)) (fieldsFrom [])
+fieldsOf s = cond (eqb (length s) size) (fieldsFrom (fieldsIn widths s)) (fieldsFrom [])
 
 -- the refusals that reading and writing share
 unfoldable pub messageRows : Message → List Row
@@ -32,7 +36,7 @@ messageRows m = 7 when not (known (m .kind)) ∷ 8 when ltb 15 (m .sender) ∷ 9
 
 -- n bytes with these fields are no frame
 unfoldable pub formRows : ℕ → Fields → List Row
-formRows n f = 3 when not (eqb n 12) ∷ 4 when not (eqb (f .mark) mark) ∷ 5 when not (eqb (f .version) 1) ∷ []
+formRows n f = 3 when not (eqb n size) ∷ 4 when not (eqb (f .mark) mark) ∷ 5 when not (eqb (f .version) 1) ∷ []
 
 -- reading them
 unfoldable pub readRows : ℕ → Fields → List Row
@@ -50,12 +54,12 @@ readFrame s = reading (refusal (readRows (length s) (fieldsOf s))) (fieldsOf s)
 -- writing to n bytes
 unfoldable pub writeRows : ℕ → Message → List Row
 unfolding messageRows
-writeRows n m = 2 when ltb n 12 ∷ messageRows m
+writeRows n m = 2 when ltb n size ∷ messageRows m
 
 abbrev pub writeNo : List ℕ → Message → ℕ
 writeNo old m = refusal (writeRows (length old) m)
 
--- the bytes after writing over old: the first 12 are the frame, and a refusal leaves all
+-- the bytes after writing over old: the first are the frame, and a refusal leaves all
 unfoldable pub bytesAfter : List ℕ → ℕ → Message → List ℕ
 bytesAfter old feeder m = cond (eqb (writeNo old m) 0) (over feeder m old) old
 

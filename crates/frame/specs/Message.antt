@@ -11,19 +11,28 @@ abbrev pub blank : Message
 blank = msg 0 0 0
 
 -- kinds: a take is 1, a return 2, an acknowledgment 3
+abbrev pub takeKind : ℕ
+takeKind = 1
+
+abbrev pub returnKind : ℕ
+returnKind = 2
+
+abbrev pub ackKind : ℕ
+ackKind = 3
+
 abbrev pub isTake : Message → Bool
-isTake m = eqb (m .kind) 1
+isTake m = eqb (m .kind) takeKind
 
 abbrev pub isReturn : Message → Bool
-isReturn m = eqb (m .kind) 2
+isReturn m = eqb (m .kind) returnKind
 
 -- takes and returns are what is settled and counted
 abbrev pub counted : Message → Bool
 counted m = isTake m || isReturn m
 
--- a kind that there is
+-- the kinds that a frame knows
 abbrev pub known : ℕ → Bool
-known k = leb 1 k && leb k 3
+known k = leb takeKind k && leb k ackKind
 
 -- counters go from 1 to this
 abbrev pub lastCounter : ℕ

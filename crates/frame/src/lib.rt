@@ -1,11 +1,18 @@
-// Frames of 12 bytes: what a message is, and how it is read and written.
+// Frames: what a message is, and how it is read and written.
 ghost use mathlib.Core.Path.{_≡_};
 ghost use Prim.Native.Nat.{_≤_};
 ghost use mathlib.Core.List.{_++_};
 ghost use lib.ListN.{length, drop};
 ghost use Rattle.laws.specs.Ladder.{refusal};
 ghost use Rattle.frame.specs.Message.{msg};
-ghost use Rattle.frame.specs.Frame.{frame, fieldsOf, formRows, messageRows, readRows, readFrame, writeRows, Written};
+ghost use Rattle.frame.specs.Frame.{frame, size, fieldsOf, formRows, messageRows, readRows, readFrame, writeRows, Written};
+
+// The kinds of a message.
+pub const TAKE: u8 = 1;
+
+pub const RETURN: u8 = 2;
+
+pub const ACK: u8 = 3;
 
 // A message: its kind, and its stamp of counter and sender.
 pub struct Message {
@@ -13,6 +20,13 @@ pub struct Message {
     pub sender: u8,
     pub counter: u32,
 }
+
+// No message.
+pub const BLANK: Message = Message {
+    kind: 0,
+    sender: 0,
+    counter: 0,
+};
 
 // What stands in the fields of a frame, good or bad.
 pub struct Fields {
@@ -29,7 +43,8 @@ pub struct Reading {
     pub message: Message,
 }
 
-const LENGTH: usize = 12;
+// The bytes of mark, version, feeder, kind, sender and counter.
+pub const SIZE: usize = 3 + 2 + 1 + 1 + 1 + 4;
 
 const MARK: u32 = 0x46504d;
 
@@ -39,10 +54,10 @@ const VERSION: u16 = 1;
 fn message_number(m: Message) -> u8
     ensures { λ r. ⌜ r ≡ refusal (messageRows m) ⌝ }
 {
-    if m.kind < 1 {
+    if m.kind < TAKE {
         return 7;
     }
-    if 3 < m.kind {
+    if ACK < m.kind {
         return 7;
     }
     if 15 < m.sender {
@@ -58,7 +73,7 @@ fn message_number(m: Message) -> u8
 pub fn form_number(len: usize, f: Fields) -> u8
     ensures { λ r. ⌜ r ≡ refusal (formRows len f) ⌝ }
 {
-    if len != LENGTH {
+    if len != SIZE {
         return 3;
     }
     if f.mark != MARK {
@@ -84,17 +99,17 @@ fn read_number(len: usize, f: Fields) -> u8
 fn write_number(len: usize, m: Message) -> u8
     ensures { λ r. ⌜ r ≡ refusal (writeRows len m) ⌝ }
 {
-    if len < LENGTH {
+    if len < SIZE {
         return 2;
     }
     message_number(m)
 }
 
-// What stands in the fields of 12 bytes; zeros where there are not 12.
+// What stands in the fields of a frame's bytes; zeros where there are not as many.
 pub fn split(s: &[u8]) -> Fields
     ensures { λ r. ⌜ r ≡ fieldsOf (now (s .entry)) ⌝ }
 {
-    if s.len() == LENGTH {
+    if s.len() == SIZE {
         let mark = fields::load(s, 0, 3) as u32;
         let version = fields::load(s, 3, 2) as u16;
         let feeder = fields::load(s, 5, 1) as u8;
@@ -116,11 +131,7 @@ pub fn split(s: &[u8]) -> Fields
         mark: 0,
         version: 0,
         feeder: 0,
-        message: Message {
-            kind: 0,
-            sender: 0,
-            counter: 0,
-        },
+        message: BLANK,
     }
 }
 
@@ -133,11 +144,7 @@ pub fn read(s: &[u8]) -> Reading
         return Reading {
             number,
             feeder: 0,
-            message: Message {
-                kind: 0,
-                sender: 0,
-                counter: 0,
-            },
+            message: BLANK,
         };
     }
     let m = f.message;
@@ -149,8 +156,8 @@ pub fn read(s: &[u8]) -> Reading
 }
 
 fn store(buf: &mut [u8], feeder: u8, kind: u8, sender: u8, counter: u32)
-    requires { ⌜ 12 ≤ length (now buf) ⌝ }
-    ensures { λ r. ⌜ now (buf .exit) ≡ frame feeder (msg kind sender counter) ++ drop 12 (now (buf .entry)) ⌝ }
+    requires { ⌜ size ≤ length (now buf) ⌝ }
+    ensures { λ r. ⌜ now (buf .exit) ≡ frame feeder (msg kind sender counter) ++ drop size (now (buf .entry)) ⌝ }
 {
     fields::store(buf, 0, 3, MARK as u64);
     fields::store(buf, 3, 2, VERSION as u64);
@@ -160,7 +167,7 @@ fn store(buf: &mut [u8], feeder: u8, kind: u8, sender: u8, counter: u32)
     fields::store(buf, 8, 4, counter as u64);
 }
 
-// Puts a frame into the first 12 bytes of `buf`, or refuses and leaves all of it.
+// Puts a frame into the first bytes of `buf`, or refuses and leaves all of it.
 pub fn write(buf: &mut [u8], feeder: u8, m: Message) -> u8
     ensures { λ r. ⌜ Written (now (buf .entry)) (now (buf .exit)) feeder m r ⌝ }
 {

@@ -4,7 +4,7 @@ use borrow.Author.Tests.{lt-ltb, le-ltb, eq-eqb, ne-eqb}
 use Rattle.laws.proofs.Ladders.{on, off}
 use Rattle.frame.specs.Message.{known}
 use Rattle.frame.specs.Frame.{messageRows}
-use Rattle.frame.proofs.Passing.{is-kind, low-kind, high-kind}
+use Rattle.frame.proofs.KnownKinds.{is-kind, low-kind, high-kind}
 use Rattle.frame.proofs.message_number.Statement.{statement}
 use Rattle.frame.proofs.message_number.Tie as tie
 

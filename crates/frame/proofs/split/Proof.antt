@@ -1,4 +1,4 @@
--- Of 12 bytes each field is loaded at its place. A loaded number is below 256 to its width, so no cast loses anything. Assumes nothing.
+-- Each field is loaded at its place. A loaded number is below 256 to its width, so no cast loses anything. Assumes nothing.
 use borrow.Author.Needs.{needs, fits-under}
 use Prim.Native.Nat.{ℕ, _^_}
 use native.Mathlib.Omega.{arith}
@@ -15,7 +15,7 @@ use Rattle.laws.proofs.Ladders.{picks, on}
 use Rattle.fields.specs.Field.{fieldAt}
 use Rattle.fields.proofs.FieldLaws.{loaded-fits}
 use Rattle.fields.proofs.Rows.{loads-row}
-use Rattle.frame.specs.Frame.{widths, fieldsFrom, fieldsOf}
+use Rattle.frame.specs.Frame.{widths, size, fieldsFrom, fieldsOf}
 use Rattle.frame.proofs.split.Statement.{statement}
 use Rattle.frame.proofs.split.Tie as tie
 
@@ -24,7 +24,7 @@ fits : (w : Width) (s : List ℕ) (at width r : ℕ) → ((i : ℕ) → Fits w8 
 fits w s at width r h e t = fits-under w r (256 ^ width) (rw e (loaded-fits s at width (all-bytes s (λ i. h i .fits)))) t
 
 -- six numbers loaded one after the other
-six : (s : List ℕ) → length s ≡ 12 → {mark version feeder kind sender counter : ℕ}
+six : (s : List ℕ) → length s ≡ size → {mark version feeder kind sender counter : ℕ}
     → mark ≡ fieldAt s 0 3 → version ≡ fieldAt s 3 2 → feeder ≡ fieldAt s 5 1 → kind ≡ fieldAt s 6 1 → sender ≡ fieldAt s 7 1 → counter ≡ fieldAt s 8 4
     → fieldsFrom (mark ∷ version ∷ feeder ∷ kind ∷ sender ∷ counter ∷ []) ≡ fieldsFrom (fieldsIn widths s)
 six s h a b c d e f = (λ i. fieldsFrom (a i ∷ b i ∷ c i ∷ d i ∷ e i ∷ f i ∷ [])) ∙ ap fieldsFrom (loads-row s 0 widths tt (omega arith))
