@@ -4,33 +4,32 @@ use mathlib.Core.Path.{_≡_}
 use mathlib.Core.List.{List, [], _∷_}
 use Prim.Native.Nat.{ℕ, _<_}
 use native.Mathlib.Omega.{arith}
-use lib.Dec.{T, eqb}
+use lib.Dec.{T, eqb, eqb-refl}
 use lib.ListN.{length}
 use Rattle.laws.specs.Ladder.{refusal}
-use Rattle.laws.specs.Lists.{many}
 use Rattle.laws.proofs.RefusalLaws.{unless-both}
-use Rattle.frame.specs.Message.{lastCounter, by}
+use Rattle.frame.specs.Message.{lastCounter}
 use Rattle.frame.specs.Frame.{fieldsOf}
-use Rattle.frame.specs.Table.{takeTests, returnTests}
-use Rattle.frame.proofs.Passing.{own-passed, receive-passed}
-use Rattle.queue.specs.Queue.{Start, Queue, clock, last, waiting, phase}
-use Rattle.queue.specs.Replies.{Call, take-call, return-call, receive-call, value-call, missing-call, Answer, after}
-use Rattle.queue.specs.Calls.{say, acks, accept, receiveRows, said, received, onQueue}
+use Rattle.calls.specs.Own.{Own, rowOf}
+use Rattle.calls.specs.Table.{ownTests, receiveTests}
+use Rattle.calls.proofs.Passing.{own-known, own-passed, receive-passed}
+use Rattle.calls.specs.declared.Start.{Start}
+use Rattle.queue.specs.Queue.{Queue, clock, phase}
+use Rattle.calls.specs.Replies.{Call, own-call, receive-call, value-call, missing-call, Answer, after}
+use Rattle.queue.specs.Calls.{view, say, accept, said, received, onQueue}
 use Rattle.queue.proofs.Good.{New, Good, good-say, good-accept}
 
 -- the queues that a call may leave
 pub data Change (st : Start) (q : Queue) : Call → Queue → Type 0 where
   unchanged : {c : Call} → Change st q c q
-  took : {lent : List ℕ} → T (eqb (phase st q) 0) → clock q < lastCounter → Change st q (take-call lent) (say st 1 q)
-  gave-back : {lent : List ℕ} → T (eqb (phase st q) 3) → clock q < lastCounter → Change st q (return-call lent) (say st 2 q)
+  spoke : {o : Own} {lent : List ℕ} → T (eqb (phase st q) (rowOf o .from)) → clock q < lastCounter → Change st q (own-call o lent) (say st (rowOf o .kind) q)
   accepted : {s lent : List ℕ} → New st q (fieldsOf s .message) → Change st q (receive-call s lent) (accept st q (fieldsOf s .message))
 
 -- a received message that no row refuses is new
 module _ (st : Start) (q : Queue) where
-  pub receives-new : (s : List ℕ) (n : ℕ) → refusal (receiveRows st q s n) ≡ 0 → New st q (fieldsOf s .message)
-  unfolding acks
+  pub receives-new : (s : List ℕ) (n : ℕ) → refusal (receiveTests (view st q) s n) ≡ 0 → New st q (fieldsOf s .message)
   receives-new s n e =
-      let c = receive-passed (st .posts) (st .own) (st .feeder) (clock q) (λ r. last r q) (λ r. many (by r) (waiting st q)) s n e in
+      let c = receive-passed (view st q) s n e in
       let a = c .new in
       record {
         other = c .other;
@@ -42,16 +41,12 @@ module _ (st : Start) (q : Queue) where
 
   pub change : (c : Call) → Change st q c (onQueue st q c .next)
   unfolding onQueue said received
-  change (take-call lent) =
-      unless-both {A = Answer Queue} (λ a. Change st q (take-call lent) (a .next)) (takeTests (phase st q) (clock q) (length lent)) _ _
-      (λ z. let h = own-passed 0 13 _ _ (length lent) tt z in took (rw (h .phase) tt) (h .clock))
-      (λ n d. unchanged)
-  change (return-call lent) =
-      unless-both {A = Answer Queue} (λ a. Change st q (return-call lent) (a .next)) (returnTests (phase st q) (clock q) (length lent)) _ _
-      (λ z. let h = own-passed 3 14 _ _ (length lent) tt z in gave-back (rw (h .phase) tt) (h .clock))
+  change (own-call o lent) =
+      unless-both {A = Answer Queue} (λ a. Change st q (own-call o lent) (a .next)) (ownTests o (view st q) (length lent)) _ _
+      (λ z. let h = own-passed o (view st q) (length lent) z in spoke (rw (h .phase) (eqb-refl (rowOf o .from))) (h .clock))
       (λ n d. unchanged)
   change (receive-call s lent) =
-      unless-both {A = Answer Queue} (λ a. Change st q (receive-call s lent) (a .next)) (receiveRows st q s (length lent)) _ _
+      unless-both {A = Answer Queue} (λ a. Change st q (receive-call s lent) (a .next)) (receiveTests (view st q) s (length lent)) _ _
       (λ z. accepted (receives-new s (length lent) z))
       (λ n d. unchanged)
   change value-call = unchanged
@@ -66,6 +61,5 @@ after-calls st P kept (c ∷ calls) q h = let q′ = onQueue st q c .next in aft
 
 pub good-change : (st : Start) (c : Call) (q q′ : Queue) → Change st q c q′ → Good st q → Good st q′
 good-change st c q q′ unchanged g = g
-good-change st c q q′ (took z l) g = good-say st q g 1 tt
-good-change st c q q′ (gave-back z l) g = good-say st q g 2 tt
+good-change st c q q′ (spoke {o = o} z l) g = good-say st q g (rowOf o .kind) (own-known o)
 good-change st c q q′ (accepted {s = s} w) g = good-accept st q g (fieldsOf s .message) w

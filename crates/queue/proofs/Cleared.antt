@@ -16,7 +16,7 @@ use Rattle.laws.proofs.ListLaws.{in-keep, keep-in, keep-keep, keep-cong, parts}
 use Rattle.laws.proofs.RisingLaws.{rising-same}
 use Rattle.frame.specs.declared.Message.{Message}
 use Rattle.frame.specs.Message.{isTake, isReturn, counted, stamp, by}
-use Rattle.queue.specs.Queue.{heard, settled, takes, number, room, grants}
+use Rattle.queue.specs.Queue.{heard, settled, takes, number, room, free, grants}
 use Rattle.queue.specs.Feeder.{Line, start, Feeder, sent, had, returnsSent}
 use Rattle.queue.specs.Demand3.{Cleared}
 use Rattle.queue.proofs.Good.{le-last}
@@ -72,7 +72,7 @@ module _ (L : Line) (s : Feeder) (w : Sound L s) (clear : Cleared L s) where
 
   pub exactly : (p q : ℕ) → p < L .posts → q < L .posts → (t : Message)
       → In t (grants (start L p) (s p)) ↔ (In t (takes (start L q) (s q)) × (t .sender ≡ p) × (number (start L q) (s q) t ≤ L .places + returnsSent L s))
-  unfolding grants
+  unfolding grants free
   exactly p q lp lq t = (
     λ i.
         let k = keep-in _ t (takes (start L p) (s p)) i in

@@ -9,9 +9,11 @@ use Rattle.laws.proofs.ListLaws.{keep-in, keep-none}
 use Rattle.laws.proofs.RisingLaws.{keep-put-no, top-mono}
 use Rattle.laws.proofs.Counting.{top-put, top-keep-put}
 use Rattle.frame.specs.declared.Message.{Message}
-use Rattle.frame.specs.Message.{stamp, by}
-use Rattle.queue.specs.Queue.{Start, Queue, clock, last}
-use Rattle.queue.specs.Calls.{saying, say, acks, accept}
+use Rattle.frame.specs.Message.{ackKind, stamp, by}
+use Rattle.calls.specs.declared.Start.{Start}
+use Rattle.queue.specs.Queue.{Queue, clock, last}
+use Rattle.calls.specs.View.{acks}
+use Rattle.queue.specs.Calls.{view, saying, say, accept}
 use Rattle.queue.proofs.Good.{Sorted, New}
 
 abbrev counter : Message → ℕ
@@ -26,12 +28,12 @@ unfolding say saying
 clock-say st kind q = let e = clock-put (saying st kind q) q in omega arith
 
 pub clock-accept : (st : Start) (q : Queue) (m : Message)
-    → let c = max (clock q) (m .counter) in clock (accept st q m) ≡ cond (acks m) (suc c) c
+    → let c = max (clock q) (m .counter) in clock (accept st q m) ≡ cond (acks (view st q) m) (suc c) c
 unfolding accept
-clock-accept st q m = go (acks m)
+clock-accept st q m = go (acks (view st q) m)
   where
-    go : (b : Bool) → let c = max (clock q) (m .counter) in clock (cond b (say st 3 (put stamp m q)) (put stamp m q)) ≡ cond b (suc c) c
-    go true = clock-say st 3 (put stamp m q) ∙ ap suc (clock-put m q)
+    go : (b : Bool) → let c = max (clock q) (m .counter) in clock (cond b (say st ackKind (put stamp m q)) (put stamp m q)) ≡ cond b (suc c) c
+    go true = clock-say st ackKind (put stamp m q) ∙ ap suc (clock-put m q)
     go false = clock-put m q
 
 -- ---- the last counters

@@ -14,11 +14,14 @@ use Rattle.laws.proofs.Counting.{one-most, one-no, many-keep}
 use Rattle.frame.specs.declared.Message.{Message}
 use Rattle.frame.specs.Message.{msg, isReturn, counted, known, lastCounter, stamp, by, ownReturn}
 use Rattle.frame.specs.Frame.{fieldsOf}
-use Rattle.queue.specs.Queue.{Start, Queue, clock, heard, waiting, latest}
-use Rattle.queue.specs.Replies.{Call, take-call, return-call, receive-call, value-call, missing-call}
-use Rattle.queue.specs.Calls.{saying, say, acks, accept}
+use Rattle.calls.specs.Own.{taking, returning}
+use Rattle.calls.specs.declared.Start.{Start}
+use Rattle.queue.specs.Queue.{Queue, clock, heard, waiting, latest}
+use Rattle.calls.specs.Replies.{Call, own-call, receive-call, value-call, missing-call}
+use Rattle.calls.specs.View.{acks}
+use Rattle.queue.specs.Calls.{view, saying, say, accept}
 use Rattle.queue.proofs.Good.{Fit, New}
-use Rattle.queue.proofs.Changes.{Change, unchanged, took, gave-back, accepted}
+use Rattle.queue.proofs.Changes.{Change, unchanged, spoke, accepted}
 use Rattle.queue.proofs.Granted.{grants-in, holding-latest}
 use Rattle.queue.proofs.Marks.{holds}
 use Rattle.queue.proofs.Holding.{Kept, kept-change, kept-empty}
@@ -39,8 +42,7 @@ fitting-empty st fit = record { kept = kept-empty st fit; few = λ r l d. omega 
 
 -- the counter of a received frame fits its bytes
 abbrev pub CounterFits : Call → Type 0
-CounterFits (take-call lent) = Unit
-CounterFits (return-call lent) = Unit
+CounterFits (own-call o lent) = Unit
 CounterFits (receive-call s lent) = fieldsOf s .message .counter ≤ lastCounter
 CounterFits value-call = Unit
 CounterFits missing-call = Unit
@@ -111,29 +113,29 @@ module _ (st : Start) (q : Queue) (m : Message) (k : Fitting st q) (w : New st q
 
   came-width : m .counter ≤ lastCounter → clock (accept st q m) ≤ lastCounter
   came-width c =
-      rw (clock-accept st q m) (cond-both (λ x. x ≤ lastCounter) (acks m) (suc (max (clock q) (m .counter))) (max (clock q) (m .counter))
+      rw (clock-accept st q m) (cond-both (λ x. x ≤ lastCounter) (acks (view st q) m) (suc (max (clock q) (m .counter))) (max (clock q) (m .counter))
       (λ y. let r = w .room y in let a = r .0 in let b = r .1 in omega arith)
       (λ n. let o = k .width in omega arith))
 
 pub fitting-change : (st : Start) (c : Call) (q q′ : Queue) → CounterFits c → Change st q c q′ → Fitting st q → Fitting st q′
 unfolding saying
 fitting-change st c q q′ f unchanged k = k
-fitting-change st c q q′ f (took z l) k =
+fitting-change st c q q′ f (spoke {o = taking} z l) k =
     let own = said st q k 1 tt tt (ownReturn (st .own)) in
     let none = ap one? (and-false (by (st .own) (saying st 1 q))) in
     let old = k .own in
     record {
-      kept = kept-change st c q q′ (took z l) (k .kept);
+      kept = kept-change st c q q′ (spoke {o = taking} z l) (k .kept);
       few = others-few st q k 1 tt tt;
       own = omega arith;
       width = let e = clock-say st 1 q in omega arith;
     }
-fitting-change st c q q′ f (gave-back z l) k =
+fitting-change st c q q′ f (spoke {o = returning} z l) k =
     let own = said st q k 2 tt tt (ownReturn (st .own)) in
     let none = none-held st q (k .kept) z in
     let one = one-most (ownReturn (st .own) (saying st 2 q)) in
     record {
-      kept = kept-change st c q q′ (gave-back z l) (k .kept);
+      kept = kept-change st c q q′ (spoke {o = returning} z l) (k .kept);
       few = others-few st q k 2 tt tt;
       own = omega arith;
       width = let e = clock-say st 2 q in omega arith;

@@ -11,9 +11,11 @@ use Rattle.laws.proofs.Tests.{cond-both}
 use Rattle.laws.proofs.ListLaws.{in-keep}
 use Rattle.laws.proofs.RisingLaws.{in-put, put-in, rising-put, le-top}
 use Rattle.frame.specs.declared.Message.{Message}
-use Rattle.frame.specs.Message.{counted, known, lastCounter, stamp, by}
-use Rattle.queue.specs.Queue.{Start, Queue, clock, last, waiting}
-use Rattle.queue.specs.Calls.{saying, say, acks, accept}
+use Rattle.frame.specs.Message.{ackKind, counted, known, lastCounter, stamp, by}
+use Rattle.calls.specs.declared.Start.{Start}
+use Rattle.queue.specs.Queue.{Queue, clock, last, waiting}
+use Rattle.calls.specs.View.{acks}
+use Rattle.queue.specs.Calls.{view, saying, say, accept}
 
 -- a post of a feeder, which has at most 16
 pub record Fit (st : Start) : Type 0 where
@@ -46,7 +48,7 @@ pub record New (st : Start) (q : Queue) (m : Message) : Type 0 where
   pub other : m .sender ≡ st .own → ⊥
   pub proper : Proper st m
   pub above : last (m .sender) q < m .counter
-  pub room : T (acks m) → (clock q < lastCounter) × (m .counter < lastCounter)
+  pub room : T (acks (view st q) m) → (clock q < lastCounter) × (m .counter < lastCounter)
   pub few : T (counted m) → many (by (m .sender)) (waiting st q) < 4
 
 pub good-empty : (st : Start) → Fit st → Good st []
@@ -116,16 +118,16 @@ module _ (st : Start) (q : Queue) (g : Good st q) where
   unfolding accept acks say saying
   good-accept m w =
       let p = put stamp m q in
-      let a = saying st 3 p in
+      let a = saying st ackKind p in
       let s = sorted-new st q (g .sorted) m w in
-      cond-both (Good st) (acks m) (say st 3 p) p
+      cond-both (Good st) (acks (view st q) m) (say st ackKind p) p
       (λ y. record {
-        sorted = sorted-say st p s 3 tt;
+        sorted = sorted-say st p s ackKind tt;
         topped = λ x i c d.
             ⊎-elim
             (λ e. absurd (d (ap (λ (z : Message). z .sender) e)))
-            (λ j. (a, put-in stamp a a p (inl refl), refl, say-above st p s 3 x j))
-            (in-say st 3 p x i);
+            (λ j. (a, put-in stamp a a p (inl refl), refl, say-above st p s ackKind x j))
+            (in-say st ackKind p x i);
       })
       (λ n. record {
         sorted = s;

@@ -4,21 +4,21 @@ use mathlib.Core.Logic.{⊎-elim}
 use mathlib.Core.Bool.{Bool, true, false, not, cond, _&&_}
 use mathlib.Core.List.{List}
 use Prim.Native.Nat.{ℕ, _≤_}
-use native.Mathlib.Omega.{arith}
-use lib.Dec.{T, leb, eqb, not-T, leb→le, le→leb, eqb→eq, eqb-refl}
+use lib.Dec.{T, eqb, not-T, eqb→eq, eqb-refl}
 use mir.Facts.{yes-and}
 use Rattle.laws.specs.Lists.{In, keep, final, Rising, put}
 use Rattle.laws.proofs.Tests.{and-l, and-r, or-l}
 use Rattle.laws.proofs.ListLaws.{in-keep, keep-in, final-in, final-snoc}
 use Rattle.laws.proofs.RisingLaws.{rising-keep, final-most}
 use Rattle.frame.specs.declared.Message.{Message}
-use Rattle.frame.specs.Message.{msg, isTake, isReturn, counted, stamp, by}
-use Rattle.queue.specs.Queue.{Start, Queue, heard, settled, takes, number, room, grants, latest, phase}
+use Rattle.frame.specs.Message.{msg, ackKind, isTake, isReturn, counted, stamp, by}
+use Rattle.calls.specs.declared.Start.{Start}
+use Rattle.queue.specs.Queue.{Queue, heard, settled, takes, free, grants, latest, phase}
 use Rattle.queue.specs.Calls.{saying, say, accept}
 use Rattle.queue.proofs.Good.{Sorted}
 use Rattle.queue.proofs.Parts.{keep-say-last, keep-accept-no}
 use Rattle.queue.proofs.Heard.{settled-in, in-settled, takes-rising}
-use Rattle.queue.proofs.Grow.{Later, heard-grows, number-stays, room-grows}
+use Rattle.queue.proofs.Grow.{Later, heard-grows, free-grows}
 
 -- what a granted take is
 pub record Granted (st : Start) (q : Queue) (m : Message) : Type 0 where
@@ -26,7 +26,7 @@ pub record Granted (st : Start) (q : Queue) (m : Message) : Type 0 where
   pub own : T (by (st .own) m)
   pub take : T (isTake m)
   pub heard-there : T (heard st q m)
-  pub fits : number st q m ≤ room st q
+  pub fits : T (free st q m)
 
 pub take-cast : {a b : Message} → a ≡ b → T (isTake a) → T (isTake b)
 take-cast e t = subst (λ (x : Message). T (isTake x)) e t
@@ -54,14 +54,14 @@ module _ (st : Start) (q : Queue) where
         own = and-l (by (st .own) m) _ (a .1);
         take = b .1;
         heard-there = c .2;
-        fits = leb→le (number st q m) (room st q) (and-r (by (st .own) m) _ (a .1));
+        fits = and-r (by (st .own) m) _ (a .1);
       }
 
   pub in-grants : (m : Message) → Granted st q m → In m (grants st q)
   unfolding grants
   in-grants m g =
       in-keep _ m (takes st q) (in-takes m (g .here) (g .take) (g .heard-there))
-      (yes-and (by (st .own) m) _ (g .own) (le→leb (number st q m) (room st q) (g .fits)))
+      (yes-and (by (st .own) m) _ (g .own) (g .fits))
 
   pub grants-rising : Rising stamp q → Rising stamp (grants st q)
   unfolding grants
@@ -85,9 +85,9 @@ module _ (st : Start) (q : Queue) where
 
   -- ---- the phase
 
-  three-is : eqb (phase st q) 3 ≡ (isTake (latest st q) && (heard st q (latest st q) && leb (number st q (latest st q)) (room st q)))
+  three-is : eqb (phase st q) 3 ≡ (isTake (latest st q) && (heard st q (latest st q) && free st q (latest st q)))
   unfolding phase
-  three-is = go (isTake (latest st q)) (heard st q (latest st q)) (leb (number st q (latest st q)) (room st q))
+  three-is = go (isTake (latest st q)) (heard st q (latest st q)) (free st q (latest st q))
     where
       go : (a b c : Bool) → eqb (cond a (cond b (cond c 3 2) 1) 0) 3 ≡ (a && (b && c))
       go true true true = refl
@@ -97,7 +97,7 @@ module _ (st : Start) (q : Queue) where
 
   pub idle-latest : T (eqb (phase st q) 0) → T (not (isTake (latest st q)))
   unfolding phase
-  idle-latest = go (isTake (latest st q)) (heard st q (latest st q)) (leb (number st q (latest st q)) (room st q))
+  idle-latest = go (isTake (latest st q)) (heard st q (latest st q)) (free st q (latest st q))
     where
       go : (a b c : Bool) → T (eqb (cond a (cond b (cond c 3 2) 1) 0) 0) → T (not a)
       go true true true t = t
@@ -116,7 +116,7 @@ module _ (st : Start) (q : Queue) where
         own = k .1;
         take = and-l (isTake m) _ t;
         heard-there = and-l (heard st q m) _ u;
-        fits = leb→le (number st q m) (room st q) (and-r (heard st q m) _ u);
+        fits = and-r (heard st q m) _ u;
       })
 
   pub latest-holding : In (latest st q) (grants st q) → T (eqb (phase st q) 3)
@@ -124,20 +124,17 @@ module _ (st : Start) (q : Queue) where
       let m = latest st q in
       let g = grants-in m i in
       subst T (sym three-is)
-      (yes-and (isTake m) _ (g .take) (yes-and (heard st q m) _ (g .heard-there) (le→leb (number st q m) (room st q) (g .fits))))
+      (yes-and (isTake m) _ (g .take) (yes-and (heard st q m) _ (g .heard-there) (g .fits)))
 
 pub grants-grow : (st : Start) (q q′ : Queue) → Later st q q′ → (m : Message) → In m (grants st q) → In m (grants st q′)
 grants-grow st q q′ l m i =
     let g = grants-in st q m i in
-    let a = number-stays st q q′ l m (in-takes st q m (g .here) (g .take) (g .heard-there)) in
-    let b = room-grows st q q′ l in
-    let c = g .fits in
     in-grants st q′ m (record {
       here = l .keeps m (g .here);
       own = g .own;
       take = g .take;
       heard-there = heard-grows st q q′ l m (g .heard-there);
-      fits = omega arith;
+      fits = free-grows st q q′ l m (in-takes st q m (g .here) (g .take) (g .heard-there)) (g .fits);
     })
 
 -- ---- after a call
@@ -153,7 +150,7 @@ module _ (st : Start) (q : Queue) where
   pub latest-accepted : (m : Message) → (m .sender ≡ st .own → ⊥) → latest st (accept st q m) ≡ latest st q
   unfolding latest saying
   latest-accepted m d =
-      let a = saying st 3 (put stamp m q) in
+      let a = saying st ackKind (put stamp m q) in
       ap (λ (l : List Message). final l (before st))
       (keep-accept-no st q (ownCounted st) m
       (not-T (ownCounted st m) (λ y. d (eqb→eq (m .sender) (st .own) (and-l (by (st .own) m) _ y))))

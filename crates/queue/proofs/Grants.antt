@@ -4,8 +4,9 @@ use Prim.Native.Nat.{_+_}
 use native.Mathlib.Omega.{arith}
 use lib.ListN.{length, length-append}
 use Rattle.laws.specs.Below.{one?}
-use Rattle.queue.specs.Queue.{Start, Queue, grants}
-use Rattle.queue.specs.Replies.{Call}
+use Rattle.calls.specs.declared.Start.{Start}
+use Rattle.queue.specs.Queue.{Queue, grants}
+use Rattle.calls.specs.Replies.{Call}
 use Rattle.queue.specs.Calls.{onQueue}
 use Rattle.queue.specs.Demand3.{marked}
 use Rattle.queue.proofs.Changes.{change}

@@ -1,21 +1,25 @@
--- A post's settled list only grows at its end, numbers stay, and room only grows. Assumes nothing.
+-- A post's settled list only grows at its end, numbers stay, and what is free stays free. Assumes nothing.
 use mathlib.Core.Path.{_≡_, ap}
 use mathlib.Core.Logic.{_⊎_, inl, inr, ⊎-elim}
 use Prim.Native.Nat.{ℕ, _≤_, _<_}
 use native.Mathlib.Omega.{arith}
-use lib.Dec.{T}
+use lib.Dec.{T, leb→le, le→leb}
 use Rattle.laws.specs.Lists.{In, keep, Begins, Rising, put}
 use Rattle.laws.proofs.Tests.{cond-both}
 use Rattle.laws.proofs.ListLaws.{in-keep, keep-in, begins-in, begins-keep, begins-length}
 use Rattle.laws.proofs.RisingLaws.{begins-of, in-put, put-in, upto-begins, top-mono}
 use Rattle.frame.specs.declared.Message.{Message}
-use Rattle.frame.specs.Message.{isTake, isReturn, known, stamp, by}
+use Rattle.frame.specs.Message.{ackKind, isTake, isReturn, known, stamp, by}
 use Rattle.frame.specs.Frame.{fieldsOf}
-use Rattle.queue.specs.Queue.{Start, Queue, last, heard, settled, takes, number, room}
-use Rattle.queue.specs.Replies.{Call}
-use Rattle.queue.specs.Calls.{saying, say, acks, accept}
+use Rattle.calls.specs.Own.{rowOf}
+use Rattle.calls.proofs.Passing.{own-known}
+use Rattle.calls.specs.declared.Start.{Start}
+use Rattle.queue.specs.Queue.{Queue, last, heard, settled, takes, number, room, free}
+use Rattle.calls.specs.Replies.{Call}
+use Rattle.calls.specs.View.{acks}
+use Rattle.queue.specs.Calls.{view, saying, say, accept}
 use Rattle.queue.proofs.Good.{in-say, Sorted, New, say-above, sorted-say, sorted-new}
-use Rattle.queue.proofs.Changes.{Change, unchanged, took, gave-back, accepted}
+use Rattle.queue.proofs.Changes.{Change, unchanged, spoke, accepted}
 use Rattle.queue.proofs.Heard.{heard-at, at-heard, settled-in, in-settled, settled-rising, takes-rising}
 
 -- a later queue of the same post: it holds what the earlier one held, and what is new stands above all that was settled
@@ -58,6 +62,14 @@ module _ (st : Start) (q q′ : Queue) (l : Later st q q′) where
       let b = begins-keep isReturn (settled st q) (settled st q′) settled-grows in
       let c = begins-length (keep isReturn (settled st q)) (keep isReturn (settled st q′)) b in
       omega arith
+
+  pub free-grows : (m : Message) → In m (takes st q) → T (free st q m) → T (free st q′ m)
+  unfolding free
+  free-grows m i f =
+      let a = number-stays m i in
+      let b = room-grows in
+      let c = leb→le (number st q m) (room st q) f in
+      le→leb (number st q′ m) (room st q′) (omega arith)
 
 -- ---- the calls
 
@@ -104,10 +116,9 @@ module _ (st : Start) (q : Queue) (g : Sorted st q) where
   later-accept m w =
       let p = put stamp m q in
       let l = later-new m w in
-      cond-both (Later st q) (acks m) (say st 3 p) p (λ y. later-trans st q p (say st 3 p) l (later-say st p (sorted-new st q g m w) 3 tt)) (λ n. l)
+      cond-both (Later st q) (acks (view st q) m) (say st ackKind p) p (λ y. later-trans st q p (say st ackKind p) l (later-say st p (sorted-new st q g m w) ackKind tt)) (λ n. l)
 
   pub later : (c : Call) (q′ : Queue) → Change st q c q′ → Later st q q′
   later c q′ unchanged = record { before = g .rising; after = g .rising; keeps = λ m i. i; above = λ m i. inl i }
-  later c q′ (took z l) = later-say st q g 1 tt
-  later c q′ (gave-back z l) = later-say st q g 2 tt
+  later c q′ (spoke {o = o} z l) = later-say st q g (rowOf o .kind) (own-known o)
   later c q′ (accepted {s = s} w) = later-accept (fieldsOf s .message) w

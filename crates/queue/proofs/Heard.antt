@@ -11,7 +11,8 @@ use Rattle.laws.proofs.ListLaws.{in-keep, keep-in}
 use Rattle.laws.proofs.RisingLaws.{rising-keep}
 use Rattle.frame.specs.declared.Message.{Message}
 use Rattle.frame.specs.Message.{isTake, counted, stamp}
-use Rattle.queue.specs.Queue.{Start, Queue, lastStamp, heard, settled, takes}
+use Rattle.calls.specs.declared.Start.{Start}
+use Rattle.queue.specs.Queue.{Queue, lastStamp, heard, settled, takes}
 
 module _ (st : Start) (q : Queue) where
   pub heard-at : (m : Message) → T (heard st q m) → (r : ℕ) → r < st .posts → (r ≡ st .own → ⊥) → stamp m ≤ lastStamp r q

@@ -13,14 +13,16 @@ use Rattle.laws.specs.Lists.{keep, many, final, put}
 use Rattle.laws.proofs.Tests.{and-l, and-r}
 use Rattle.laws.proofs.BelowLaws.{sumTo-cong, sumTo-add}
 use Rattle.laws.proofs.ListLaws.{in-cast, keep-keep}
-use Rattle.frame.specs.Message.{isReturn, stamp, by, ownReturn}
+use Rattle.frame.specs.Message.{ackKind, isReturn, stamp, by, ownReturn}
 use Rattle.frame.specs.Frame.{fieldsOf}
-use Rattle.queue.specs.Queue.{Start, Queue, settled, grants, latest, phase}
-use Rattle.queue.specs.Replies.{Call, receive-call}
+use Rattle.calls.specs.Own.{taking, returning}
+use Rattle.calls.specs.declared.Start.{Start}
+use Rattle.queue.specs.Queue.{Queue, settled, grants, latest, phase}
+use Rattle.calls.specs.Replies.{Call, receive-call}
 use Rattle.queue.specs.Calls.{saying, grantCame}
 use Rattle.queue.specs.Feeder.{Line, start, Feeder, sent, returnsSent, granted, holding}
 use Rattle.queue.proofs.Good.{Fit, Good, good-empty}
-use Rattle.queue.proofs.Changes.{Change, unchanged, took, gave-back, accepted, good-change}
+use Rattle.queue.proofs.Changes.{Change, unchanged, spoke, accepted, good-change}
 use Rattle.queue.proofs.Parts.{keep-say-no, keep-say-last, keep-accept-no}
 use Rattle.queue.proofs.Grow.{later}
 use Rattle.queue.proofs.Granted.{take-cast, grants-in, grants-grow, holding-latest, latest-holding, latest-said, latest-accepted}
@@ -52,11 +54,11 @@ no-return st q q′ e h = let a = ap length e in let b = one-more (holds st q) (
 turned : (st : Start) (c : Call) (q q′ : Queue) → Good st q → Change st q c q′ → Turned st q q′
 unfolding saying grantCame
 turned st c q q′ g unchanged = no-return st q q refl (λ z. z)
-turned st c q q′ g (took z l) =
+turned st c q q′ g (spoke {o = taking} z l) =
     let t = saying st 1 q in
     no-return st q q′ (keep-say-no st q (ownReturn (st .own)) 1 (not-T (ownReturn (st .own) t) (and-r (by (st .own) t) (isReturn t))))
     (λ y. absurd (let a = eqb→eq (phase st q) 0 z in let b = eqb→eq (phase st q) 3 y in omega arith))
-turned st c q q′ g (gave-back z l) =
+turned st c q q′ g (spoke {o = returning} z l) =
     let t = saying st 2 q in
     let k = ap length (keep-say-last st q (ownReturn (st .own)) (g .sorted) 2 (yes-and (by (st .own) t) (isReturn t) (eqb-refl (st .own)) tt)) in
     let a = length-append (keep (ownReturn (st .own)) q) (t ∷ []) in
@@ -65,7 +67,7 @@ turned st c q q′ g (gave-back z l) =
     omega arith
 turned st c q q′ g (accepted {s = s} {lent = lent} w) =
     let m = fieldsOf s .message in
-    let a = saying st 3 (put stamp m q) in
+    let a = saying st ackKind (put stamp m q) in
     let l = later st q (g .sorted) (receive-call s lent) q′ (accepted w) in
     no-return st q q′
     (keep-accept-no st q (ownReturn (st .own)) m

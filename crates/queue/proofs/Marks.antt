@@ -15,15 +15,18 @@ use Rattle.laws.proofs.RefusalLaws.{unless-both}
 use Rattle.laws.proofs.ListLaws.{in-cast, in-left, in-right, in-append}
 use Rattle.laws.proofs.RisingLaws.{rising-unique, rising-same, rising-snoc, in-put}
 use Rattle.frame.specs.declared.Message.{Message}
-use Rattle.frame.specs.Message.{isTake, isReturn, stamp, by}
+use Rattle.frame.specs.Message.{ackKind, isTake, isReturn, stamp, by}
 use Rattle.frame.specs.Frame.{fieldsOf}
-use Rattle.frame.specs.Table.{takeTests, returnTests}
-use Rattle.queue.specs.Queue.{Start, Queue, clock, grants, latest, phase}
-use Rattle.queue.specs.Replies.{Call, take-call, return-call, receive-call, value-call, missing-call, Answer, refused, after}
-use Rattle.queue.specs.Calls.{saying, say, acks, accept, grantCame, receiveRows, said, received, onQueue}
+use Rattle.calls.specs.Own.{taking, returning}
+use Rattle.calls.specs.Table.{ownTests, receiveTests}
+use Rattle.calls.specs.declared.Start.{Start}
+use Rattle.queue.specs.Queue.{Queue, grants, latest, phase}
+use Rattle.calls.specs.Replies.{Call, own-call, receive-call, value-call, missing-call, Answer, refused, after}
+use Rattle.calls.specs.View.{acks}
+use Rattle.queue.specs.Calls.{view, saying, say, accept, grantCame, said, received, onQueue}
 use Rattle.queue.specs.Demand3.{marked, markedTakes}
 use Rattle.queue.proofs.Good.{Good, New, in-say, say-above}
-use Rattle.queue.proofs.Changes.{Change, unchanged, took, gave-back, accepted, change, good-change}
+use Rattle.queue.proofs.Changes.{Change, unchanged, spoke, accepted, change, good-change}
 use Rattle.queue.proofs.Grow.{Later, later}
 use Rattle.queue.proofs.Granted.{take-cast, grants-in, grants-rising, grants-grow, latest-most, idle-latest, holding-latest, latest-holding}
 use Rattle.queue.proofs.Granted.{latest-said, latest-accepted}
@@ -45,8 +48,8 @@ module _ (st : Start) (q : Queue) (g : Good st q) where
   old-take : (m : Message) → New st q m → (x : Message) → In x (accept st q m) → T (by (st .own) x) → T (isTake x) → In x q
   unfolding accept saying
   old-take m w x i o y =
-      cond-both (λ (l : Queue). In x l → In x q) (acks m) (say st 3 p) p
-      (λ c j. ⊎-elim (λ d. absurd (take-cast d y)) came (in-say st 3 p x j))
+      cond-both (λ (l : Queue). In x l → In x q) (acks (view st q) m) (say st ackKind p) p
+      (λ c j. ⊎-elim (λ d. absurd (take-cast d y)) came (in-say st ackKind p x j))
       (λ c. came)
       i
     where
@@ -65,7 +68,7 @@ module _ (st : Start) (q : Queue) (g : Good st q) where
   pub step : (c : Call) (q′ : Queue) → Change st q c q′ → Paid st q → Step st q q′
   unfolding saying
   step c q′ unchanged p = record { takes-of = p; held = λ y. same-latest q refl }
-  step c q′ (took z l) p =
+  step c q′ (spoke {o = taking} z l) p =
       let t = saying st 1 q in
       let e = latest-said st q (g .sorted) 1 tt in
       record {
@@ -79,7 +82,7 @@ module _ (st : Start) (q : Queue) (g : Good st q) where
           λ i. absurd (let h = say-above st q (g .sorted) 1 t (grants-in st q t (in-cast (grants st q) e i) .here) in omega arith),
         );
       }
-  step c q′ (gave-back z l) p = record {
+  step c q′ (spoke {o = returning} z l) p = record {
     takes-of = λ m i o y.
         ⊎-elim
         (λ d. absurd (take-cast d y))
@@ -164,9 +167,8 @@ told-or-refused st q rows lent a e =
 
 pub mark-came : (st : Start) (q : Queue) (c : Call) → marked (onQueue st q c .reply) ≡ grantCame st q (onQueue st q c .next)
 unfolding onQueue said received grantCame
-mark-came st q (take-call lent) = told-or-refused st q (takeTests (phase st q) (clock q) (length lent)) lent (said st q 1 lent) refl
-mark-came st q (return-call lent) = told-or-refused st q (returnTests (phase st q) (clock q) (length lent)) lent (said st q 2 lent) refl
-mark-came st q (receive-call s lent) = told-or-refused st q (receiveRows st q s (length lent)) lent (received st q (fieldsOf s .message) lent) refl
+mark-came st q (own-call o lent) = told-or-refused st q (ownTests o (view st q) (length lent)) lent (said st q o lent) refl
+mark-came st q (receive-call s lent) = told-or-refused st q (receiveTests (view st q) s (length lent)) lent (received st q (fieldsOf s .message) lent) refl
 mark-came st q value-call = none (holds st q)
 mark-came st q missing-call = none (holds st q)
 

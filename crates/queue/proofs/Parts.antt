@@ -10,9 +10,11 @@ use Rattle.laws.proofs.Tests.{cond-both}
 use Rattle.laws.proofs.ListLaws.{begins-refl}
 use Rattle.laws.proofs.RisingLaws.{keep-put-no, keep-put-last}
 use Rattle.frame.specs.declared.Message.{Message}
-use Rattle.frame.specs.Message.{stamp, by}
-use Rattle.queue.specs.Queue.{Start, Queue}
-use Rattle.queue.specs.Calls.{saying, say, acks, accept}
+use Rattle.frame.specs.Message.{ackKind, stamp, by}
+use Rattle.calls.specs.declared.Start.{Start}
+use Rattle.queue.specs.Queue.{Queue}
+use Rattle.calls.specs.View.{acks}
+use Rattle.queue.specs.Calls.{view, saying, say, accept}
 use Rattle.queue.proofs.Good.{le-last, Sorted, say-above, New, new-stamp, sorted-new}
 
 module _ (st : Start) (q : Queue) (f : Message → Bool) where
@@ -32,13 +34,13 @@ not-by : (r : ℕ) (m : Message) → (r ≡ m .sender → ⊥) → T (not (by r 
 not-by r m d = not-T (by r m) (λ y. d (sym (eqb→eq (m .sender) r y)))
 
 module _ (st : Start) (q : Queue) where
-  pub keep-accept-no : (f : Message → Bool) (m : Message) → T (not (f m)) → T (not (f (saying st 3 (put stamp m q))))
+  pub keep-accept-no : (f : Message → Bool) (m : Message) → T (not (f m)) → T (not (f (saying st ackKind (put stamp m q))))
       → keep f (accept st q m) ≡ keep f q
   unfolding accept
   keep-accept-no f m n k =
       let p = put stamp m q in
       let e = keep-put-no stamp f m q n in
-      cond-both (λ x. keep f x ≡ keep f q) (acks m) (say st 3 p) p (λ y. keep-say-no st p f 3 k ∙ e) (λ z. e)
+      cond-both (λ x. keep f x ≡ keep f q) (acks (view st q) m) (say st ackKind p) p (λ y. keep-say-no st p f ackKind k ∙ e) (λ z. e)
 
   pub others-said : (kind r : ℕ) → (r ≡ st .own → ⊥) → keep (by r) (say st kind q) ≡ keep (by r) q
   unfolding saying
@@ -46,7 +48,7 @@ module _ (st : Start) (q : Queue) where
 
   pub others-accepted : (r : ℕ) (m : Message) → (r ≡ st .own → ⊥) → (r ≡ m .sender → ⊥) → keep (by r) (accept st q m) ≡ keep (by r) q
   unfolding saying
-  others-accepted r m d f = keep-accept-no (by r) m (not-by r m f) (not-by r (saying st 3 (put stamp m q)) d)
+  others-accepted r m d f = keep-accept-no (by r) m (not-by r m f) (not-by r (saying st ackKind (put stamp m q)) d)
 
   pub own-said : Sorted st q → (kind : ℕ) → Begins (keep (by (st .own)) q) (keep (by (st .own)) (say st kind q))
   unfolding saying
@@ -59,8 +61,8 @@ module _ (st : Start) (q : Queue) (g : Sorted st q) (m : Message) (w : New st q 
   own-accepted =
       let p = put stamp m q in
       let e = keep-put-no stamp (by (st .own)) m q (not-by (st .own) m (λ x. w .other (sym x))) in
-      cond-both (λ x. Begins (keep (by (st .own)) q) (keep (by (st .own)) x)) (acks m) (say st 3 p) p
-      (λ y. rw e at (own-said st p (sorted-new st q g m w) 3))
+      cond-both (λ x. Begins (keep (by (st .own)) q) (keep (by (st .own)) x)) (acks (view st q) m) (say st ackKind p) p
+      (λ y. rw e at (own-said st p (sorted-new st q g m w) ackKind))
       (λ n. rw e (begins-refl (keep (by (st .own)) q)))
 
   sender-above : (b : Message) → In b q → T (by (m .sender) b) → stamp b < stamp m
@@ -75,6 +77,6 @@ module _ (st : Start) (q : Queue) (g : Sorted st q) (m : Message) (w : New st q 
   sender-accepted =
       let p = put stamp m q in
       let e = keep-put-last stamp (by (m .sender)) m q (g .rising) (eqb-refl (m .sender)) sender-above (new-stamp st q g m w) in
-      cond-both (λ x. keep (by (m .sender)) x ≡ keep (by (m .sender)) q ++ (m ∷ [])) (acks m) (say st 3 p) p
-      (λ y. others-said st p 3 (m .sender) (w .other) ∙ e)
+      cond-both (λ x. keep (by (m .sender)) x ≡ keep (by (m .sender)) q ++ (m ∷ [])) (acks (view st q) m) (say st ackKind p) p
+      (λ y. others-said st p ackKind (m .sender) (w .other) ∙ e)
       (λ n. e)

@@ -3,11 +3,12 @@ use mathlib.Core.Path.{_≡_}
 use mathlib.Core.Bool.{Bool, true, false, not, cond}
 use Prim.Native.Nat.{_≤_, _<_}
 use native.Mathlib.Omega.{arith}
-use lib.Dec.{T, leb, eqb}
+use lib.Dec.{T, eqb}
 use lib.Ieee.Bits.{is-true, is-false}
 use Rattle.laws.proofs.Counting.{upto-some}
 use Rattle.frame.specs.Message.{isTake, stamp}
-use Rattle.queue.specs.Queue.{Start, Queue, heard, takes, number, room, latest, phase, order}
+use Rattle.calls.specs.declared.Start.{Start}
+use Rattle.queue.specs.Queue.{Queue, heard, takes, number, free, latest, phase, order}
 use Rattle.queue.proofs.Granted.{in-takes, latest-in}
 
 module _ (st : Start) (q : Queue) where
@@ -30,7 +31,7 @@ module _ (st : Start) (q : Queue) where
   order-asked t n = rw (is-true (isTake (latest st q)) t, is-false (heard st q (latest st q)) n)
 
   -- it is settled
-  pub phase-numbered : T (isTake (latest st q)) → T (heard st q (latest st q)) → phase st q ≡ cond (leb (number st q (latest st q)) (room st q)) 3 2
+  pub phase-numbered : T (isTake (latest st q)) → T (heard st q (latest st q)) → phase st q ≡ cond (free st q (latest st q)) 3 2
   unfolding phase
   phase-numbered t h = rw (is-true (isTake (latest st q)) t, is-true (heard st q (latest st q)) h)
 
@@ -43,7 +44,7 @@ module _ (st : Start) (q : Queue) where
 
   pub phase-small : phase st q ≤ 3
   unfolding phase
-  phase-small = go (isTake (latest st q)) (heard st q (latest st q)) (leb (number st q (latest st q)) (room st q))
+  phase-small = go (isTake (latest st q)) (heard st q (latest st q)) (free st q (latest st q))
     where
       go : (a b c : Bool) → cond a (cond b (cond c 3 2) 1) 0 ≤ 3
       go true true true = omega arith
@@ -54,7 +55,7 @@ module _ (st : Start) (q : Queue) where
   -- a numbered take is never in phase 1
   pub asked-latest : T (eqb (phase st q) 1) → T (isTake (latest st q)) × T (not (heard st q (latest st q)))
   unfolding phase
-  asked-latest = go (isTake (latest st q)) (heard st q (latest st q)) (leb (number st q (latest st q)) (room st q))
+  asked-latest = go (isTake (latest st q)) (heard st q (latest st q)) (free st q (latest st q))
     where
       go : (a b c : Bool) → T (eqb (cond a (cond b (cond c 3 2) 1) 0) 1) → T a × T (not b)
       go true true true t = absurd t

@@ -15,7 +15,7 @@ use Rattle.laws.proofs.ListLaws.{keep-keep, many-le, begins-refl, begins-trans,
 use Rattle.laws.proofs.RisingLaws.{upto-begins, upto-few}
 use Rattle.frame.specs.declared.Message.{Message}
 use Rattle.frame.specs.Message.{isTake, isReturn, counted, stamp, by}
-use Rattle.queue.specs.Queue.{heard, settled, takes, number, room, grants}
+use Rattle.queue.specs.Queue.{heard, settled, takes, number, room, free, grants}
 use Rattle.queue.specs.Feeder.{Line, start, Feeder, sent, had, returnsSent, granted}
 use Rattle.queue.proofs.Heard.{takes-in, takes-rising}
 use Rattle.queue.proofs.Agree.{Sound, one-order}
@@ -79,7 +79,7 @@ module _ (L : Line) (s : Feeder) (w : Sound L s) where
   -- a post's granted takes are own takes that have a number up to x in any list which its settled list begins
   grants-le : (x p : ℕ) (t : List Message) → Rising stamp (keep isTake t) → Begins (settledAt p) t → room (start L p) (s p) ≤ x
       → length (grants (start L p) (s p)) ≤ many (λ m. leb (upto stamp (keep isTake t) m) x) (keep (by p) (keep isTake t))
-  unfolding grants
+  unfolding grants free
   grants-le x p t r b h =
       let one = many-le f g mine fits in
       let two = begins-length (keep g mine) (keep g all) (begins-keep g mine all begins) in

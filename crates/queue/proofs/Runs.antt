@@ -13,18 +13,21 @@ use Rattle.laws.proofs.ListLaws.{in-right, keep-in, begins-refl, begins-trans, 
 use Rattle.laws.proofs.RisingLaws.{in-put, top-lt}
 use Rattle.frame.specs.declared.Message.{Message}
 use Rattle.frame.specs.declared.Fields.{Fields}
-use Rattle.frame.specs.Message.{lastCounter, stamp, by}
+use Rattle.frame.specs.Message.{ackKind, lastCounter, stamp, by}
 use Rattle.frame.specs.Frame.{frame, fieldsOf}
 use Rattle.frame.proofs.Frames.{InWidth}
 use Rattle.frame.proofs.FrameFields.{frame-fields}
-use Rattle.queue.specs.Queue.{Start, Queue, clock}
-use Rattle.queue.specs.Replies.{Call, take-call, return-call, receive-call, value-call, missing-call}
-use Rattle.queue.specs.Calls.{saying, say, acks, accept, onQueue}
-use Rattle.queue.specs.Feeder.{Line, start, Feeder, fresh, sent, had, pending, Act, takeAt, returnAt, deliver, none, at-post}
+use Rattle.calls.specs.Own.{rowOf}
+use Rattle.calls.specs.declared.Start.{Start}
+use Rattle.queue.specs.Queue.{Queue, clock}
+use Rattle.calls.specs.Replies.{Call, own-call, receive-call, value-call, missing-call}
+use Rattle.calls.specs.View.{acks}
+use Rattle.queue.specs.Calls.{view, saying, say, accept, onQueue}
+use Rattle.queue.specs.Feeder.{Line, start, Feeder, fresh, sent, had, pending, Act, own-at, deliver, none, at-post}
 use Rattle.queue.specs.Feeder.{buffer, offered, comesTo, with-queue, afterMade, run}
 use Rattle.queue.specs.Demand3.{Faithful}
 use Rattle.queue.proofs.Good.{New, le-clock}
-use Rattle.queue.proofs.Changes.{Change, unchanged, took, gave-back, accepted, change}
+use Rattle.queue.proofs.Changes.{Change, unchanged, spoke, accepted, change}
 use Rattle.queue.proofs.Parts.{others-said, others-accepted, own-said, own-accepted, sender-accepted}
 use Rattle.queue.proofs.Holding.{Kept, kept-change, kept-empty}
 
@@ -50,7 +53,7 @@ unfolding accept
 small-accept st q m n c h =
     let p = put stamp m q in
     let s = small-put m q c h in
-    cond-both Small (acks m) (say st 3 p) p (λ y. small-say st 3 p (clock-put m q lastCounter (n .room y .1) (n .room y .0)) s) (λ z. s)
+    cond-both Small (acks (view st q) m) (say st ackKind p) p (λ y. small-say st ackKind p (clock-put m q lastCounter (n .room y .1) (n .room y .0)) s) (λ z. s)
 
 -- ---- what holds after every act
 
@@ -72,8 +75,7 @@ Follows L s p m = (r : ℕ) × (r < L .posts) × (ms : List Message) × (had s r
 
 -- a call at p brings only that
 abbrev Brings : Line → Feeder → ℕ → Call → Type 0
-Brings L s p (take-call lent) = Unit
-Brings L s p (return-call lent) = Unit
+Brings L s p (own-call o lent) = Unit
 Brings L s p (receive-call f lent) = Follows L s p (fieldsOf f .message)
 Brings L s p value-call = Unit
 Brings L s p missing-call = Unit
@@ -116,8 +118,7 @@ module _ (L : Line) (s : Feeder) (w : Ran L s) (p : ℕ) (l : p < L .posts) wher
 
   next : (c : Call) (q : Queue) → Brings L s p c → Change st (s p) c q → Kept st q → Next L s p q
   next c q b unchanged k = record { kept = k; small = w .small p l; own = begins-refl (sent s p); others = λ r lr d. w .faithful r p lr l d }
-  next c q b (took z h) k = next-say 1 h k
-  next c q b (gave-back z h) k = next-say 2 h k
+  next c q b (spoke {o = o} z h) k = next-say (rowOf o .kind) h k
   next c q b (accepted {s = f} n) k = next-accept (fieldsOf f .message) b n k
 
   ran-with : (q : Queue) → Next L s p q → Ran L (with-queue s p q)
@@ -171,13 +172,9 @@ module _ (L : Line) (f : L .feeder ≤ 255) (s : Feeder) (w : Ran L s) where
 
   pub ran-act : (a : Act) → Ran L (afterMade L s (comesTo L s a))
   unfolding comesTo pending
-  ran-act (takeAt p) =
-      cond-both (λ x. Ran L (afterMade L s x)) (ltb p (L .posts)) (at-post p (take-call buffer)) none
-      (λ y. ran-call L s w p (ltb→lt p (L .posts) y) (take-call buffer) tt)
-      (λ n. w)
-  ran-act (returnAt p) =
-      cond-both (λ x. Ran L (afterMade L s x)) (ltb p (L .posts)) (at-post p (return-call buffer)) none
-      (λ y. ran-call L s w p (ltb→lt p (L .posts) y) (return-call buffer) tt)
+  ran-act (own-at o p) =
+      cond-both (λ x. Ran L (afterMade L s x)) (ltb p (L .posts)) (at-post p (own-call o buffer)) none
+      (λ y. ran-call L s w p (ltb→lt p (L .posts) y) (own-call o buffer) tt)
       (λ n. w)
   ran-act (deliver p q) =
       cond-both (λ x. Ran L (afterMade L s x)) (ltb p (L .posts) && (ltb q (L .posts) && not (eqb p q))) (offered L q (pending s p q)) none

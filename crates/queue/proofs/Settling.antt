@@ -14,9 +14,11 @@ use Rattle.laws.proofs.RisingLaws.{rising-seam, rising-keep, rising-same, in-pu
 use Rattle.laws.proofs.CountLaws.{many-append}
 use Rattle.laws.proofs.Counting.{rising-right, upto-after}
 use Rattle.frame.specs.declared.Message.{Message}
-use Rattle.frame.specs.Message.{msg, isTake, counted, known, stamp}
-use Rattle.queue.specs.Queue.{Start, Queue, heard, settled, waiting, takes, number}
-use Rattle.queue.specs.Calls.{saying, say, acks, accept}
+use Rattle.frame.specs.Message.{msg, ackKind, isTake, counted, known, stamp}
+use Rattle.calls.specs.declared.Start.{Start}
+use Rattle.queue.specs.Queue.{Queue, heard, settled, waiting, takes, number}
+use Rattle.calls.specs.View.{acks}
+use Rattle.queue.specs.Calls.{view, saying, say, accept}
 use Rattle.queue.proofs.Good.{Sorted, New, in-say, say-above, new-stamp}
 use Rattle.queue.proofs.Heard.{settled-in, in-settled, settled-rising, takes-rising}
 use Rattle.queue.proofs.Grow.{Later, heard-grows, settled-grows, later-say, later-accept}
@@ -130,8 +132,8 @@ module _ (st : Start) (q : Queue) (g : Sorted st q) (m : Message) (w : New st q 
   unfolding accept saying
   counted-in x i k =
       let p = put stamp m q in
-      cond-both (λ (l : Queue). In x l → (x ≡ m) ⊎ In x q) (acks m) (say st 3 p) p
-      (λ y j. ⊎-elim (λ e. absurd (subst (λ (z : Message). T (counted z)) e k)) (in-put stamp m x q) (in-say st 3 p x j))
+      cond-both (λ (l : Queue). In x l → (x ≡ m) ⊎ In x q) (acks (view st q) m) (say st ackKind p) p
+      (λ y j. ⊎-elim (λ e. absurd (subst (λ (z : Message). T (counted z)) e k)) (in-put stamp m x q) (in-say st ackKind p x j))
       (λ n. in-put stamp m x q)
       i
 
@@ -140,7 +142,7 @@ module _ (st : Start) (q : Queue) (g : Sorted st q) (m : Message) (w : New st q 
   here =
       let p = put stamp m q in
       let i = put-in stamp m m q (inl refl) in
-      cond-both (In m) (acks m) (say st 3 p) p (λ y. put-in stamp (saying st 3 p) m p (inr i)) (λ n. i)
+      cond-both (In m) (acks (view st q) m) (say st ackKind p) p (λ y. put-in stamp (saying st ackKind p) m p (inr i)) (λ n. i)
 
   pub between-accept : Between st q (accept st q m) (arrived st q m)
   between-accept =

@@ -16,10 +16,11 @@ use Rattle.laws.proofs.RisingLaws.{rising-keep}
 use Rattle.laws.proofs.ScanLaws.{many-length}
 use Rattle.laws.proofs.CountLaws.{many-none, many-split}
 use Rattle.laws.proofs.Counting.{many-all, many-one}
-use Rattle.laws.proofs.SumBounds.{sumTo-grows, sumTo-fours-but}
+use Rattle.laws.proofs.SumLaws.{sumTo-but, sumTo-grows}
 use Rattle.frame.specs.declared.Message.{Message}
 use Rattle.frame.specs.Message.{isTake, isReturn, counted, stamp, by, ownTake}
-use Rattle.queue.specs.Queue.{Start, Queue, last, heard, settled, waiting, latest}
+use Rattle.calls.specs.declared.Start.{Start}
+use Rattle.queue.specs.Queue.{Queue, last, heard, settled, waiting, latest}
 use Rattle.queue.proofs.Good.{Sorted}
 use Rattle.queue.proofs.Waiting.{waiting-in, waiting-rising, waits-latest, no-take-waits, latest-waits, none-waits}
 use Rattle.queue.proofs.Granted.{latest-in}
@@ -135,7 +136,7 @@ module _ (st : Start) (q : Queue) (k : Fitting st q) where
       let all : (l : List Message) → many (λ m. true) l ≡ length l = λ l. many-all (λ m. true) l (λ a i. tt) in
       let a = parts (λ m. m .sender) (st .posts) (λ m. true) w (λ m i. g .proper m (waiting-in st q m i .0) .sender) in
       let e = all w in
-      let b = sumTo-fours-but (st .posts) (st .own) (λ p. many (λ m. true) (keep (by p) w)) (g .fit .mine)
+      let b = sumTo-but (st .posts) (st .own) 4 2 (λ p. many (λ m. true) (keep (by p) w)) (g .fit .mine)
       (let c = all (keep (by (st .own)) w) in let d = own-two in omega arith)
       (λ r l d. let c = all (keep (by r) w) in let f = k .few r l d in omega arith)
       in

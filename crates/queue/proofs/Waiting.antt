@@ -11,7 +11,8 @@ use Rattle.laws.proofs.ListLaws.{in-keep, keep-in}
 use Rattle.laws.proofs.RisingLaws.{rising-keep}
 use Rattle.frame.specs.declared.Message.{Message}
 use Rattle.frame.specs.Message.{isTake, counted, stamp, by, ownTake}
-use Rattle.queue.specs.Queue.{Start, Queue, heard, settled, waiting, latest}
+use Rattle.calls.specs.declared.Start.{Start}
+use Rattle.queue.specs.Queue.{Queue, heard, settled, waiting, latest}
 use Rattle.queue.proofs.Heard.{heard-at, at-heard, settled-in, in-settled}
 use Rattle.queue.proofs.Granted.{take-cast, grants-in, latest-most, latest-in}
 use Rattle.queue.proofs.Marks.{Paid}

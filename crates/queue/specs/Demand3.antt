@@ -1,7 +1,8 @@
 -- Demand 3 over full queues: what is stated. `proofs/Demand3` proves it.
 use Rattle.laws.specs.{Words.{Bool, false, cond, List, [], _∷_, _++_, _≡_, _⊎_, _↔_, ℕ, _+_, _≤_, _<_}, Lists.{In, keep, Begins}}
 use Rattle.frame.specs.{declared.Message.{Message}, Message.{counted}}
-use Rattle.queue.specs.{Queue.{Start, Queue, settled, takes, number, grants, latest}, Replies.{Call, Reply, told, worth, lacking, after}, Calls.{onQueue}}
+use Rattle.calls.specs.{declared.Start.{Start}, Replies.{Call, Reply, told, worth, lacking, after}}
+use Rattle.queue.specs.{Queue.{Queue, settled, takes, number, grants, latest}, Calls.{onQueue}}
 use Rattle.queue.specs.Feeder.{Line, start, Feeder, fresh, sent, had, Act, run, returnsSent, granted, holding}
 
 -- each post's queue was made by calls at that post, with any frames and buffers
@@ -40,7 +41,7 @@ Runs = (L : Line) → L .posts ≤ 16 → L .feeder ≤ 255 → (acts : List Act
 -- ---- grants are the marks
 
 abbrev pub marked : Reply → Bool
-marked (told number wrote granted lent) = granted
+marked (told t) = t .granted
 marked (worth number value) = false
 marked (lacking number set count) = false
 

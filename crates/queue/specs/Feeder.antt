@@ -1,7 +1,8 @@
 -- A feeder: posts 0 to N - 1, each by its full queue, and runs of takes, returns and deliveries.
 use Rattle.laws.specs.{Words.{not, cond, _&&_, List, [], _∷_, ℕ, ltb, eqb, length, drop, replicate}, Lists.{keep, many}, Below.{sumTo, countTo}}
-use Rattle.frame.specs.{declared.Message.{Message}, Message.{isReturn, by}, Frame.{frame}}
-use Rattle.queue.specs.{Queue.{Start, Queue, grants, phase}, Replies.{Call, take-call, return-call, receive-call}, Calls.{onQueue}}
+use Rattle.frame.specs.{declared.Message.{Message}, Message.{isReturn, by}, Frame.{size, frame}}
+use Rattle.calls.specs.{declared.Start.{Start}, Own.{Own}, Replies.{Call, own-call, receive-call}}
+use Rattle.queue.specs.{Queue.{Queue, grants, phase}, Calls.{onQueue}}
 
 -- what the posts of a feeder are started with alike
 pub record Line : Type 0 where
@@ -30,9 +31,9 @@ had s p q = keep (by p) (s q)
 unfoldable pub pending : Feeder → ℕ → ℕ → List Message
 pending s p q = drop (length (had s p q)) (sent s p)
 
--- a take at p, a return at p, the next message of p offered to q
+-- an own call at p, so a take or a return; the next message of p offered to q
 pub data Act : Type 0 where
-  takeAt returnAt : ℕ → Act
+  own-at : Own → ℕ → Act
   deliver : ℕ → ℕ → Act
 
 -- the call that an act comes to: one at one post, or none
@@ -42,15 +43,14 @@ pub data Made : Type 0 where
 
 -- the buffer that each call is lent
 abbrev pub buffer : List ℕ
-buffer = replicate 12 0
+buffer = replicate size 0
 
 abbrev pub offered : Line → ℕ → List Message → Made
 offered L q [] = none
 offered L q (m ∷ ms) = at-post q (receive-call (frame (L .feeder) m) buffer)
 
 unfoldable pub comesTo : Line → Feeder → Act → Made
-comesTo L s (takeAt p) = cond (ltb p (L .posts)) (at-post p (take-call buffer)) none
-comesTo L s (returnAt p) = cond (ltb p (L .posts)) (at-post p (return-call buffer)) none
+comesTo L s (own-at o p) = cond (ltb p (L .posts)) (at-post p (own-call o buffer)) none
 comesTo L s (deliver p q) = cond (ltb p (L .posts) && (ltb q (L .posts) && not (eqb p q))) (offered L q (pending s p q)) none
 
 -- post p has the queue q, the others theirs

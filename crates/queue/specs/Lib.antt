@@ -1,5 +1,5 @@
-pub mod Queue
-pub mod Replies
-pub mod Calls
-pub mod Feeder
-pub mod Demand3
+-- The full queue, and feeders of posts that keep one.
+pub mod Queue  -- all that is worked out from the messages
+pub mod Calls  -- what each call gives back and leaves
+pub mod Feeder  -- posts on one feeder, and runs
+pub mod Demand3  -- what is stated of them

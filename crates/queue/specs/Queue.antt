@@ -1,13 +1,7 @@
 -- A post by its full queue: every message that it sent or accepted, sorted by stamp. All else is worked out from that list.
 use Rattle.laws.specs.{Words.{Bool, not, cond, _&&_, _||_, List, ℕ, _+_, leb, ltb, eqb, ℤ, pos, _-ℤ_, length}, Lists.{keep, many, final, upto, top}, Below.{allTo}}
-use Rattle.frame.specs.{declared.Message.{Message}, Message.{msg, isTake, isReturn, counted, stampOf, stamp, by}}
-
--- what a post is started with
-pub record Start : Type 0 where
-  pub posts : ℕ
-  pub own : ℕ
-  pub feeder : ℕ
-  pub places : ℕ
+use Rattle.frame.specs.{declared.Message.{Message}, Message.{msg, returnKind, isTake, isReturn, counted, stampOf, stamp, by}}
+use Rattle.calls.specs.declared.Start.{Start}
 
 abbrev pub Queue : Type 0
 Queue = List Message
@@ -45,19 +39,23 @@ number st q m = upto stamp (takes st q) m
 unfoldable pub room : Start → Queue → ℕ
 room st q = st .places + many isReturn (settled st q)
 
+-- the grant rule: there is a place for a settled take
+unfoldable pub free : Start → Queue → Message → Bool
+free st q m = leb (number st q m) (room st q)
+
 -- the own takes that are granted
 unfoldable pub grants : Start → Queue → List Message
-grants st q = keep (λ m. by (st .own) m && leb (number st q m) (room st q)) (takes st q)
+grants st q = keep (λ m. by (st .own) m && free st q m) (takes st q)
 
 -- the own last take or return; a return before there is one
 unfoldable pub latest : Start → Queue → Message
-latest st q = final (keep (λ m. by (st .own) m && counted m) q) (msg 2 (st .own) 0)
+latest st q = final (keep (λ m. by (st .own) m && counted m) q) (msg returnKind (st .own) 0)
 
 -- 0 idle, 1 take not yet settled, 2 numbered and waiting, 3 holding
 unfoldable pub phase : Start → Queue → ℕ
 phase st q =
     let m = latest st q in
-    cond (isTake m) (cond (heard st q m) (cond (leb (number st q m) (room st q)) 3 2) 1) 0
+    cond (isTake m) (cond (heard st q m) (cond (free st q m) 3 2) 1) 0
 
 -- the number of the own take once it is settled
 unfoldable pub order : Start → Queue → ℕ
@@ -65,7 +63,7 @@ order st q = cond (isTake (latest st q) && heard st q (latest st q)) (number st 
 
 -- places and settled returns less settled takes
 unfoldable pub value : Start → Queue → ℤ
-value st q = pos (room st q) -ℤ pos (length (takes st q))
+value st q = pos (st .places + many isReturn (settled st q)) -ℤ pos (length (takes st q))
 
 -- another post whose last stamp is below the own unsettled take
 unfoldable pub lacks : Start → Queue → ℕ → Bool
