@@ -1,27 +1,8 @@
-pub mod Ranges
-pub mod SoundFacts
-pub mod Shape
-pub mod Accepted
-pub mod Floors
-pub mod Standing
-pub mod Most
-pub mod Above
-pub mod Values
-pub mod OwnMessages
-pub mod StandsOn
-pub mod SoundPasses
-pub mod Settles
-pub mod Raised
-pub mod Remade
-pub mod Stays
-pub mod Starts
-pub mod Looking
-pub mod Leaving
-pub mod Inserting
-pub mod Remaking
-pub mod RowsSound
-pub mod RowsReceive
-pub mod Answering
-pub mod Lacking
-pub mod Unique
-pub mod OwnTakes
+-- Why the calls meet their promises, by subject; beside these, a folder for each module of the code with the proofs of its functions.
+pub mod Fields  -- what the fields of a record hold
+pub mod Sound  -- the rules of a sound record, one by one
+pub mod Own  -- a post's own messages among the waiting
+mod Settle  -- what settling does to a sound record
+pub mod Kept  -- every call hands a sound record back sound
+mod Works  -- what the code works out is what the definitions say
+pub mod Unique  -- two results that meet a promise are equal

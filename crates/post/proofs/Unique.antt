@@ -3,29 +3,28 @@ use Prim.Native.Nat.{ℕ}
 use mathlib.Core.Path.{_≡_, _∙_, sym}
 use mathlib.Core.Bool.{Bool}
 use mathlib.Core.List.{List}
+use Rattle.calls.specs.declared.Start.{Start}
+use Rattle.calls.specs.Own.{Own}
 use Rattle.post.specs.declared.Post.{Post}
 use Rattle.post.specs.declared.Started.{Started}
 use Rattle.post.specs.declared.Answer.{Answer}
 use Rattle.post.specs.declared.Value.{Value}
 use Rattle.post.specs.declared.Missing.{Missing}
 use Rattle.post.specs.Sound.{sound}
-use Rattle.post.specs.Calls.{Outcome, Gives, started, took, gaveBack, received, valued, missed}
+use Rattle.post.specs.Calls.{started, Outcome, Gives, spoke, received, valued, missed}
 
 gives-unique : {o : Outcome} {a b : Answer} {x y : List ℕ} → Gives o a x → Gives o b y → (a ≡ b) × (x ≡ y)
 gives-unique p q = (p .gives ∙ sym (q .gives), p .leaves ∙ sym (q .leaves))
 
-pub start-unique : (posts own feeder places : ℕ) (a b : Started) → a ≡ started posts own feeder places → b ≡ started posts own feeder places → a ≡ b
-start-unique posts own feeder places a b p q = p ∙ sym q
+pub start-unique : (st : Start) (a b : Started) → a ≡ started st → b ≡ started st → a ≡ b
+start-unique st a b p q = p ∙ sym q
 
 pub sound-unique : (p : Post) (a b : Bool) → a ≡ sound p → b ≡ sound p → a ≡ b
 sound-unique p a b e f = e ∙ sym f
 
-pub take-unique : (p : Post) (lent x y : List ℕ) (a b : Answer) → Gives (took p lent) a x → Gives (took p lent) b y → (a ≡ b) × (x ≡ y)
-take-unique p lent x y a b = gives-unique
-
-pub give-back-unique : (p : Post) (lent x y : List ℕ) (a b : Answer) → Gives (gaveBack p lent) a x → Gives (gaveBack p lent) b y
-    → (a ≡ b) × (x ≡ y)
-give-back-unique p lent x y a b = gives-unique
+-- of a take and of a return
+pub own-unique : (o : Own) (p : Post) (lent x y : List ℕ) (a b : Answer) → Gives (spoke o p lent) a x → Gives (spoke o p lent) b y → (a ≡ b) × (x ≡ y)
+own-unique o p lent x y a b = gives-unique
 
 pub receive-unique : (p : Post) (s lent x y : List ℕ) (a b : Answer) → Gives (received p s lent) a x → Gives (received p s lent) b y
     → (a ≡ b) × (x ≡ y)

@@ -2,46 +2,50 @@
 use Rattle.post.specs.declared.{Post.{Post}, Started.{Started}, Answer.{Answer}, Value.{Value}, Missing.{Missing}}
 use Rattle.laws.specs.{Words.{_≡_, Bool, true, false, not, cond, _&&_, List, [], _∷_, ℕ, _+_, max, ltb, eqb, pos, _-ℤ_, length, set}, Ladder.{Row, _when_, unless}}
 use Rattle.laws.specs.{Lists.{many, put}, Below.{countTo, bitsTo}}
-use Rattle.frame.specs.{declared.Message.{Message}, Message.{msg, counted, stampOf, stamp, by, ownTake}, Frame.{over, fieldsOf}, Table.{takeTests, returnTests, receiveTests}}
-use Rattle.post.specs.{Record.{lastOf, waitingOf, fresh, remade}, Sound.{inRange, sound}, Settle.{settle}}
+use Rattle.frame.specs.{declared.Message.{Message}, Message.{msg, ackKind, counted, stampOf, stamp, by, ownTake}, Frame.{over, fieldsOf}}
+use Rattle.calls.specs.{declared.Start.{Start}, Start.{starting, inRange}, Own.{Own, rowOf}, View.{View, acks}, Table.{ownTests, receiveTests}}
+use Rattle.post.specs.{Record.{startOf, lastOf, waitingOf, fresh, remade}, Sound.{sound}, Settle.{settle}}
 
 -- a start; a refused one gives the all-zero record
-unfoldable pub started : ℕ → ℕ → ℕ → ℕ → Started
-started posts own feeder places =
-    cond (inRange posts own feeder places)
-    (record { post = fresh posts own feeder places; number = 0 })
-    (record { post = fresh 0 0 0 0; number = 1 })
+unfoldable pub started : Start → Started
+started st = cond (inRange st) (record { post = fresh st; number = 0 }) (record { post = fresh (starting 0 0 0 0); number = 1 })
 
--- the record before anything is settled, with an own take or return: the clock rises by 1, and the message bears it
-unfoldable pub spoken : Post → ℕ → ℕ → Post
-spoken p kind phase =
-    let c = p .clock + 1 in
-    remade p c (set (p .last) (p .own) c) (put stamp (msg kind (p .own) c) (waitingOf p)) phase 0
-
--- with a message among the waiting and c sent, which is the clock then
-unfoldable pub joined : Post → Message → ℕ → ℕ → ℕ → Post
-joined p m c phase order = remade p c (set (set (p .last) (m .sender) (m .counter)) (p .own) c) (put stamp m (waitingOf p)) phase order
-
--- the clock of the acknowledgment of m
-abbrev pub ackClock : Post → Message → ℕ
-ackClock p m = max (p .clock) (m .counter) + 1
-
--- with a take or return received, and the acknowledgment sent for it
-unfoldable pub came : Post → Message → Post
-unfolding joined
-came p m = joined p m (ackClock p m) (p .phase) (p .order)
-
--- with an acknowledgment received
-unfoldable pub noted : Post → Message → Post
-noted p m = remade p (max (p .clock) (m .counter)) (set (p .last) (m .sender) (m .counter)) (waitingOf p) (p .phase) (p .order)
+-- what the table looks at
+abbrev pub viewOf : Post → View
+viewOf p = record { start = startOf p; clock = p .clock; phase = p .phase; last = lastOf p; waits = λ q. many (by q) (waitingOf p) }
 
 -- the refusals of each call; n is the length of the lent buffer
-unfoldable pub ownRows : (ℕ → ℕ → ℕ → List Row) → Post → ℕ → List Row
-ownRows tests p n = 1 when not (sound p) ∷ tests (p .phase) (p .clock) n
+unfoldable pub ownRows : Own → Post → ℕ → List Row
+ownRows o p n = 1 when not (sound p) ∷ ownTests o (viewOf p) n
 
 unfoldable pub receiveRows : Post → List ℕ → ℕ → List Row
-receiveRows p s n =
-    1 when not (sound p) ∷ receiveTests (p .posts) (p .own) (p .feeder) (p .clock) (lastOf p) (λ q. many (by q) (waitingOf p)) s n
+receiveRows p s n = 1 when not (sound p) ∷ receiveTests (viewOf p) s n
+
+-- the own next message of a kind: the clock rises by 1, and the message bears it
+abbrev pub saying : Post → ℕ → Message
+saying p kind = msg kind (p .own) (p .clock + 1)
+
+-- the record before anything is settled, with an own message sent
+unfoldable pub spoken : Own → Post → Post
+spoken o p =
+    let m = saying p (rowOf o .kind) in
+    remade p (m .counter) (set (p .last) (p .own) (m .counter)) (put stamp m (waitingOf p)) (rowOf o .to) 0
+
+-- the clock once m has come: the larger of the two, and one more where m is acknowledged
+abbrev pub clockWith : Post → Message → ℕ
+clockWith p m = let c = max (p .clock) (m .counter) in cond (acks (viewOf p) m) (c + 1) c
+
+-- the last counters then: the sender's is that of m, the own one that of the acknowledgment
+abbrev pub lastWith : Post → Message → List ℕ
+lastWith p m = let heard = set (p .last) (m .sender) (m .counter) in cond (acks (viewOf p) m) (set heard (p .own) (clockWith p m)) heard
+
+-- what waits then: a take or return is among it
+abbrev pub waitingWith : Post → Message → List Message
+waitingWith p m = cond (counted m) (put stamp m (waitingOf p)) (waitingOf p)
+
+-- the record before anything is settled, with m received
+unfoldable pub came : Post → Message → Post
+came p m = remade p (clockWith p m) (lastWith p m) (waitingWith p m) (p .phase) (p .order)
 
 -- a call's answer, and the lent bytes at its end
 pub record Outcome : Type 0 where
@@ -64,26 +68,19 @@ refused p n = record { post = p; number = n; wrote = false; granted = false }
 abbrev pub stays : Post → List ℕ → ℕ → Outcome
 stays p lent n = record { gives = refused p n; leaves = lent }
 
--- a message goes out, and the record is settled
-abbrev pub writing : Post → Post → Message → List ℕ → Outcome
-writing p p′ m lent = record { gives = answer (p .phase) (settle p′) true; leaves = over (p .feeder) m lent }
+-- an own message goes out
+abbrev pub said : Own → Post → List ℕ → Outcome
+said o p lent = record { gives = answer (p .phase) (settle (spoken o p)) true; leaves = over (p .feeder) (saying p (rowOf o .kind)) lent }
 
--- an own message of a kind, which brings the post to a phase
-abbrev pub said : Post → ℕ → ℕ → List ℕ → Outcome
-said p kind phase lent = writing p (spoken p kind phase) (msg kind (p .own) (p .clock + 1)) lent
-
-abbrev pub took : Post → List ℕ → Outcome
-took p lent = unless (ownRows takeTests p (length lent)) (stays p lent) (said p 1 1 lent)
-
-abbrev pub gaveBack : Post → List ℕ → Outcome
-gaveBack p lent = unless (ownRows returnTests p (length lent)) (stays p lent) (said p 2 0 lent)
-
--- a message comes in; a take or return is acknowledged
-abbrev pub acknowledged : Post → Message → List ℕ → Outcome
-acknowledged p m lent = writing p (came p m) (msg 3 (p .own) (ackClock p m)) lent
-
+-- a message comes in, and its acknowledgment goes out
 unfoldable pub heardFrom : Post → Message → List ℕ → Outcome
-heardFrom p m lent = cond (counted m) (acknowledged p m lent) (record { gives = answer (p .phase) (settle (noted p m)) false; leaves = lent })
+heardFrom p m lent =
+    let wrote = acks (viewOf p) m in
+    record { gives = answer (p .phase) (settle (came p m)) wrote; leaves = cond wrote (over (p .feeder) (msg ackKind (p .own) (clockWith p m)) lent) lent }
+
+-- a take or a return
+abbrev pub spoke : Own → Post → List ℕ → Outcome
+spoke o p lent = unless (ownRows o p (length lent)) (stays p lent) (said o p lent)
 
 abbrev pub received : Post → List ℕ → List ℕ → Outcome
 received p s lent = unless (receiveRows p s (length lent)) (stays p lent) (heardFrom p (fieldsOf s .message) lent)

@@ -2,11 +2,8 @@
 use Rattle.laws.specs.{Words.{Bool, not, cond, _&&_, _||_, List, [], _∷_, ℕ, _+_, leb, ltb, eqb, getD, drop}, Ladder.{every}, Lists.{all, many, rises}}
 use Rattle.laws.specs.Below.{allTo, sumTo}
 use Rattle.frame.specs.{declared.Message.{Message}, Message.{counted, stamp, by, ownTake, ownReturn}}
-use Rattle.post.specs.{declared.Post.{Post}, Record.{lastOf, waitingOf, floor}}
-
--- N is 1 to 16, own number below N, K 1 to 16; feeder is 0 to 255
-unfoldable pub inRange : ℕ → ℕ → ℕ → ℕ → Bool
-inRange posts own feeder places = every (leb 1 posts ∷ leb posts 16 ∷ ltb own posts ∷ leb 1 places ∷ leb places 16 ∷ leb feeder 255 ∷ [])
+use Rattle.calls.specs.Start.{inRange}
+use Rattle.post.specs.{declared.Post.{Post}, Record.{startOf, lastOf, waitingOf, floor}, Settle.{free}}
 
 -- phase is 0 to 3
 abbrev pub phaseFits : Post → Bool
@@ -61,14 +58,14 @@ ownFew p =
 unfoldable pub sumFits : Post → Bool
 sumFits p = leb (p .takes + p .returns + p .waits) (sumTo 16 (lastOf p))
 
--- the order number is 0 in phases 0 and 1, and from 1 to the settled takes in 2 and 3; in 3 it is at most K + settled returns, in 2 it is more
-unfoldable pub orderFits : ℕ → ℕ → ℕ → ℕ → Bool
-orderFits phase order takes room =
+-- the order number is 0 in phases 0 and 1, and from 1 to the settled takes in 2 and 3; in 3 there is a place for it, in 2 there is none
+unfoldable pub orderFits : ℕ → ℕ → ℕ → Bool → Bool
+orderFits phase order takes free =
     cond (leb phase 1) (eqb order 0)
-    (leb 1 order && (leb order takes && cond (eqb phase 3) (leb order room) (ltb room order)))
+    (leb 1 order && (leb order takes && cond (eqb phase 3) free (not free)))
 
 unfoldable pub numberRules : Post → List Bool
-numberRules p = inRange (p .posts) (p .own) (p .feeder) (p .places) ∷ phaseFits p ∷ waitsFit p ∷ absentSilent p ∷ clockAbove p ∷ []
+numberRules p = inRange (startOf p) ∷ phaseFits p ∷ waitsFit p ∷ absentSilent p ∷ clockAbove p ∷ []
 
 -- the second: stamps strictly rising, every one above the floor
 unfoldable pub slotRules : Post → List Bool
@@ -82,7 +79,7 @@ slotRules p =
     ∷ []
 
 unfoldable pub countRules : Post → List Bool
-countRules p = sumFits p ∷ orderFits (p .phase) (p .order) (p .takes) (p .places + p .returns) ∷ []
+countRules p = sumFits p ∷ orderFits (p .phase) (p .order) (p .takes) (free p) ∷ []
 
 unfoldable pub sound : Post → Bool
 sound p = every (numberRules p) && (every (slotRules p) && every (countRules p))

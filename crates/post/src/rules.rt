@@ -1,48 +1,51 @@
 // The rules of a sound record.
+use crate::Post;
+use calls::Start;
 ghost use mathlib.Core.Path.{_≡_};
 ghost use Prim.Native.Nat.{_+_};
 ghost use lib.Dec.{leb, eqb};
 ghost use mathlib.Core.Bool.{not, _&&_};
-ghost use Rattle.post.specs.Sound.{inRange, ownFits, orderFits};
+ghost use Rattle.calls.specs.Start.{inRange};
+ghost use Rattle.post.specs.Sound.{ownFits, orderFits};
 
-pub(crate) fn in_range(posts: u8, own: u8, feeder: u8, places: u8) -> bool
-    ensures { λ r. ⌜ r ≡ inRange posts own feeder places ⌝ }
+pub(crate) fn in_range(start: Start) -> bool
+    ensures { λ r. ⌜ r ≡ inRange start ⌝ }
 {
-    if posts < 1 {
+    if start.posts < 1 {
         return false;
     }
-    if 16 < posts {
+    if 16 < start.posts {
         return false;
     }
-    if posts <= own {
+    if start.posts <= start.own {
         return false;
     }
-    if places < 1 {
+    if start.places < 1 {
         return false;
     }
-    if 16 < places {
+    if 16 < start.places {
         return false;
     }
     true
 }
 
-pub(crate) fn own_fits(phase: u8, takes: u8, returns: u8, end: u8) -> bool
+pub(crate) fn own_fits(phase: u8, takes: u64, returns: u64, end: u8) -> bool
     ensures { λ r. ⌜ r ≡ ownFits phase takes returns end ⌝ }
 {
-    if phase == 0 {
+    if phase == Post::IDLE {
         if takes != 0 {
             return false;
         }
         return returns <= 1;
     }
-    if phase == 1 {
+    if phase == Post::ASKED {
         if takes != 1 {
             return false;
         }
         if 1 < returns {
             return false;
         }
-        return end == 1;
+        return end == frame::TAKE;
     }
     if takes != 0 {
         return false;
@@ -64,10 +67,20 @@ pub(crate) fn sum_fits(takes: u64, returns: u64, waits: u8, most: u64) -> bool
     waits as u64 <= left - returns
 }
 
-pub(crate) fn order_fits(phase: u8, order: u64, takes: u64, room: u64) -> bool
-    ensures { λ r. ⌜ r ≡ orderFits phase order takes room ⌝ }
+// There is a place for the take of this order number.
+pub(crate) fn is_free(order: u64, places: u8, returns: u64) -> bool
+    ensures { λ r. ⌜ r ≡ leb order (places + returns) ⌝ }
 {
-    if phase <= 1 {
+    if order <= returns {
+        return true;
+    }
+    order - returns <= places as u64
+}
+
+pub(crate) fn order_fits(phase: u8, order: u64, takes: u64, free: bool) -> bool
+    ensures { λ r. ⌜ r ≡ orderFits phase order takes free ⌝ }
+{
+    if phase <= Post::ASKED {
         return order == 0;
     }
     if order < 1 {
@@ -76,10 +89,10 @@ pub(crate) fn order_fits(phase: u8, order: u64, takes: u64, room: u64) -> bool
     if takes < order {
         return false;
     }
-    if phase == 3 {
-        return order <= room;
+    if phase == Post::HOLDING {
+        return free;
     }
-    room < order
+    !free
 }
 
 // Some wait on a feeder of one.

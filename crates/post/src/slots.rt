@@ -13,12 +13,6 @@ ghost use Rattle.post.specs.Sound.{isBlank};
 ghost use Rattle.post.specs.Calls.{ownStamp};
 ghost use Rattle.post.specs.Inside.{Looked, Left};
 
-pub(crate) const BLANK: Message = Message {
-    kind: 0,
-    sender: 0,
-    counter: 0,
-};
-
 // What a look over the slots finds of the messages that wait there.
 pub(crate) struct Seen {
     // each is fair, the stamps rise above the floor, and the other slots are zero
@@ -26,18 +20,18 @@ pub(crate) struct Seen {
     // how many of each sender
     pub counts: [u8; 16],
     // the own takes and returns, and the kind of the last of them
-    pub takes: u8,
-    pub returns: u8,
+    pub takes: u64,
+    pub returns: u64,
     pub end: u8,
 }
 
 pub(crate) fn is_counted(m: Message) -> bool
     ensures { λ r. ⌜ r ≡ counted m ⌝ }
 {
-    if m.kind == 1 {
+    if m.kind == frame::TAKE {
         return true;
     }
-    m.kind == 2
+    m.kind == frame::RETURN
 }
 
 fn fits_last(m: Message, last: u32) -> bool
@@ -50,16 +44,6 @@ fn fits_last(m: Message, last: u32) -> bool
         return false;
     }
     m.counter <= last
-}
-
-fn tally(n: u8, m: Message, kind: u8) -> u8
-    requires { ⌜ n < 255 ⌝ }
-    ensures { λ r. ⌜ r ≡ n + one? (eqb (m .kind) kind) ⌝ }
-{
-    if m.kind != kind {
-        return n;
-    }
-    n + 1
 }
 
 fn is_blank(m: Message) -> bool
@@ -98,8 +82,8 @@ pub(crate) fn look(
     ensures { λ r. ⌜ Looked posts own last floor (take n slots) (drop n slots) r ⌝ }
 {
     let mut counts = [0u8; 16];
-    let mut takes = 0u8;
-    let mut returns = 0u8;
+    let mut takes = 0u64;
+    let mut returns = 0u64;
     let mut end = 0u8;
     let mut top = floor;
     let mut i = 0;
@@ -119,8 +103,8 @@ pub(crate) fn look(
         top = t;
         counts[q] += 1;
         if m.sender == own {
-            takes = tally(takes, m, 1);
-            returns = tally(returns, m, 2);
+            takes = one_kind(takes, frame::TAKE, m);
+            returns = one_kind(returns, frame::RETURN, m);
             end = m.kind;
         }
         i += 1;
@@ -166,7 +150,7 @@ fn number_of(order: u64, takes: u64, own: u8, m: Message) -> u64
     if m.sender != own {
         return order;
     }
-    if m.kind != 1 {
+    if m.kind != frame::TAKE {
         return order;
     }
     if order != 0 {
@@ -194,8 +178,8 @@ pub(crate) fn leaving(slots: [Message; 62], n: usize, floor: u64, own: u8, takes
             };
         }
         order = number_of(order, tk, own, m);
-        tk = one_kind(tk, 1, m);
-        rt = one_kind(rt, 2, m);
+        tk = one_kind(tk, frame::TAKE, m);
+        rt = one_kind(rt, frame::RETURN, m);
         i += 1;
     }
     Gone {
@@ -222,7 +206,7 @@ fn is_own_take(own: u8, m: Message) -> bool
     if m.sender != own {
         return false;
     }
-    m.kind == 1
+    m.kind == frame::TAKE
 }
 
 // The stamp of the own take among the first n; 0 where it is not there.

@@ -3,7 +3,7 @@ use mathlib.Core.Path.{refl, _∙_, sym}
 use borrow.Author.Tests.{not-true, not-false}
 use Rattle.laws.proofs.Ladders.{and-first, and-fails}
 use Rattle.post.specs.Sound.{sound}
-use Rattle.post.proofs.RowsSound.{fails}
+use Rattle.post.proofs.Works.Rules.{fails}
 use Rattle.post.proofs.Post.checked.Statement.{statement}
 use Rattle.post.proofs.Post.checked.Tie as tie
 

@@ -10,20 +10,21 @@ use Rattle.laws.proofs.ShiftLaws.{Hole, hole, moved, below, filled}
 use Rattle.frame.specs.declared.Message.{Message}
 use Rattle.frame.specs.Message.{blank, stamp}
 use Rattle.post.specs.declared.Post.{Post}
-use Rattle.post.specs.Record.{made}
-use Rattle.post.specs.Calls.{joined}
-use Rattle.post.proofs.SoundFacts.{sound-has}
-use Rattle.post.proofs.Shape.{Kept}
-use Rattle.post.proofs.Inserting.{Above, none-above, above-more, in-place}
-use Rattle.post.proofs.Remaking.{length-mapped, with-slots, with-message, has-room}
+use Rattle.post.specs.Record.{startOf, made}
+use Rattle.post.specs.Inside.{joined}
+use Rattle.post.proofs.Sound.Facts.{sound-has}
+use Rattle.post.proofs.Fields.Shape.{Kept}
+use Rattle.post.proofs.Works.Inserting.{Above, none-above, above-more, in-place}
+use Rattle.laws.proofs.ListLaws.{length-mapped}
+use Rattle.post.proofs.Works.Remaking.{with-slots, with-message, has-room}
 use Rattle.post.proofs.Post.joined.Statement.{statement}
 use Rattle.post.proofs.Post.joined.Tie as tie
 
 abbrev Inv-loop : tie.InvT-loop
-Inv-loop m c phase order self₀ waits from at t i₀ self i = (self ≡ with-slots self₀ (self .slots)) × Hole (self₀ .slots) (self .slots) waits i × Above t (self₀ .slots) waits i × (waits < 62) × (from < 16) × (at < 16)
+Inv-loop m clock sent phase order self₀ waits from at t i₀ self i = (self ≡ with-slots self₀ (self .slots)) × Hole (self₀ .slots) (self .slots) waits i × Above t (self₀ .slots) waits i × (waits < 62) × (from < 16) × (at < 16)
 
 abbrev μ-loop : tie.MeasureT-loop
-μ-loop m c phase order self₀ waits from at t i₀ self i = i
+μ-loop m clock sent phase order self₀ waits from at t i₀ self i = i
 
 kept : (c : tie.Start Inv-loop μ-loop) → Kept (c .args .t1)
 kept c = record { sound = c .pre .0; shape = record { last = search needs; slots = search (length-mapped, needs) }; width = search needs }
@@ -69,7 +70,7 @@ returns c =
     let v = k .inv .1 in
     let h = v .high in
     let t = c .before .before .stamp .ensures in
-    ap (λ (s : Post). made (s .posts) (s .own) (s .feeder) (s .places) (a .c) (set (set (s .last) (m .sender) (m .counter)) (p .own) (a .c)) (p .waits + 1) (set (k .self .slots) (k .i) m) (s .takes) (s .returns) (a .phase) (a .order)) (k .inv .0)
+    ap (λ (s : Post). made (startOf s) (a .clock) (set (set (s .last) (m .sender) (m .counter)) (p .own) (a .sent)) (p .waits + 1) (set (k .self .slots) (k .i) m) (s .takes) (s .returns) (a .phase) (a .order)) (k .inv .0)
     ∙ with-message p z _ _ m _ _ _
     (filled v m (omega arith)
     ∙ ap (λ (x : List Message). x ++ drop (p .waits + 1) (p .slots))

@@ -4,8 +4,8 @@ use borrow.Author.Tests.{not-true, not-false}
 use denote.Floats.{passes}
 use Rattle.laws.proofs.Ladders.{off}
 use Rattle.post.specs.Calls.{missed}
-use Rattle.post.proofs.SoundFacts.{sound-has}
-use Rattle.post.proofs.Lacking.{none-missed, some-missed}
+use Rattle.post.proofs.Sound.Facts.{sound-has}
+use Rattle.post.proofs.Works.Lacking.{none-missed, some-missed}
 use Rattle.post.proofs.Post.missing.Statement.{statement}
 use Rattle.post.proofs.Post.missing.Tie as tie
 

@@ -3,10 +3,11 @@ use Prim.Native.Nat.{ℕ}
 use mathlib.Core.Path.{_∙_, ap}
 use lib.ListN.{set}
 use Rattle.post.specs.Record.{waitingOf, remade}
-use Rattle.post.specs.Calls.{noted}
-use Rattle.post.proofs.SoundFacts.{sound-has}
-use Rattle.post.proofs.Shape.{Kept}
-use Rattle.post.proofs.Remaking.{length-mapped, without-message}
+use Rattle.post.specs.Inside.{noted}
+use Rattle.post.proofs.Sound.Facts.{sound-has}
+use Rattle.post.proofs.Fields.Shape.{Kept}
+use Rattle.laws.proofs.ListLaws.{length-mapped}
+use Rattle.post.proofs.Works.Remaking.{without-message}
 use Rattle.post.proofs.Post.noted.Statement.{statement}
 use Rattle.post.proofs.Post.noted.Tie as tie
 

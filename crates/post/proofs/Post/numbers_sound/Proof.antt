@@ -3,7 +3,7 @@ use mathlib.Core.Path.{refl, _∙_, sym}
 use borrow.Author.Tests.{not-true, not-false, lt-leb, le-leb}
 use Rattle.laws.proofs.Ladders.{and-first, and-fails}
 use Rattle.post.specs.Sound.{numberRules}
-use Rattle.post.proofs.RowsSound.{lasts-fit}
+use Rattle.post.proofs.Works.Rules.{lasts-fit}
 use Rattle.post.proofs.Post.numbers_sound.Statement.{statement}
 use Rattle.post.proofs.Post.numbers_sound.Tie as tie
 

@@ -4,8 +4,8 @@ use borrow.Author.Tests.{le-leb, lt-leb, eq-eqb, ne-eqb}
 use lib.Dec.{eqb}
 use Rattle.laws.proofs.Ladders.{on, off, one-on, two-on, both-off}
 use Rattle.frame.specs.Message.{known}
-use Rattle.frame.specs.Table.{senderTests}
-use Rattle.frame.proofs.Passing.{is-kind, low-kind, high-kind}
+use Rattle.calls.specs.Table.{senderTests}
+use Rattle.frame.proofs.KnownKinds.{is-kind, low-kind, high-kind}
 use Rattle.post.proofs.Post.sender_number.Statement.{statement}
 use Rattle.post.proofs.Post.sender_number.Tie as tie
 

@@ -6,7 +6,7 @@ use lib.ListN.{drop}
 use Rattle.laws.proofs.Ladders.{and-first, and-fails}
 use Rattle.post.specs.Record.{waitingOf, floor}
 use Rattle.post.specs.Inside.{Looked}
-use Rattle.post.proofs.RowsSound.{numbers-has, looked-floor, fails, disorder, order, few-is, own-is, crowd}
+use Rattle.post.proofs.Works.Rules.{numbers-has, looked-floor, fails, disorder, order, few-is, own-is, crowd}
 use Rattle.post.proofs.Post.slots_checked.Statement.{statement}
 use Rattle.post.proofs.Post.slots_checked.Tie as tie
 

@@ -1,28 +1,33 @@
 use borrow.Author.Needs.{needs}
 use mathlib.Core.Path.{_∙_, subst, sym}
 use denote.Ref.{now}
+use lib.Dec.{T}
 use lib.ListN.{length}
-use Rattle.frame.specs.Table.{takeTests}
-use Rattle.post.specs.Calls.{ownRows}
+use Rattle.calls.specs.Own.{taking}
+use Rattle.calls.proofs.Passing.{Speaks}
+use Rattle.post.specs.Sound.{sound}
+use Rattle.post.specs.Calls.{viewOf, ownRows}
 use Rattle.post.specs.Inside.{Countable}
-use Rattle.post.proofs.SoundFacts.{sound-has}
-use Rattle.post.proofs.Shape.{Kept}
-use Rattle.post.proofs.Accepted.{Spoken, speaks}
-use Rattle.post.proofs.Remaking.{length-mapped}
-use Rattle.post.proofs.Answering.{joined-countable, not-done, is-said}
+use Rattle.post.proofs.Sound.Facts.{sound-has}
+use Rattle.post.proofs.Fields.Shape.{Kept}
+use Rattle.post.proofs.Works.Passed.{speaks}
+use Rattle.laws.proofs.ListLaws.{length-mapped}
+use Rattle.post.proofs.Works.Answering.{joined-countable, not-done, is-said}
 use Rattle.post.proofs.Post.take.Statement.{statement}
 use Rattle.post.proofs.Post.take.Tie as tie
 
-passed : (c : tie.Else1) → let a = c .before .before .before .args in Spoken (a .self) (length (now (a .buf))) 0
-passed c = speaks 0 13 _ _ tt (sym (c .before .own-number .ensures) ∙ c .if1 .left)
+passed : (c : tie.Else1) → let a = c .before .before .before .args in T (sound (a .self)) × Speaks taking (viewOf (a .self)) (length (now (a .buf)))
+unfolding ownRows
+passed c = speaks taking _ _ (sym (c .before .own-number .ensures) ∙ c .if1 .left)
 
 kept : (c : tie.Else1) → Kept (c .before .before .before .args .self)
 kept c = record { sound = passed c .0; shape = record { last = search needs; slots = search (length-mapped, needs) }; width = search needs }
 
 returns : tie.Need-returns
+unfolding ownRows
 returns c =
     let a = c .before .before .before .before .args in
-    not-done (a .self) (ownRows takeTests (a .self) (length (now (a .buf)))) (c .before .before .own-number .ensures) _ _ (c .before .if1 .taken) (c .refused .ensures)
+    not-done (a .self) (ownRows taking (a .self) (length (now (a .buf)))) (c .before .before .own-number .ensures) _ _ (c .before .if1 .taken) (c .refused .ensures)
 
 add-t9 : tie.Need-add-t9
 add-t9 c = let s = passed (c .before) .1 .clock in search needs
@@ -31,12 +36,11 @@ joined-requires : tie.Need-joined-requires
 joined-requires c κs = let k = kept (c .before) in (k .sound, sound-has _ (k .sound) .range .own-low)
 
 settled-requires : tie.Need-settled-requires
-settled-requires c κs = subst Countable (sym (c .joined .ensures)) (joined-countable _ (kept (c .before .before)) _ _ _ _)
+settled-requires c κs = subst Countable (sym (c .joined .ensures)) (joined-countable _ (kept (c .before .before)) _ _ _ _ _)
 
 returns-2 : tie.Need-returns-2
-returns-2 c =
-    let e = c .before .before .before .before .before .before .before in
-    is-said (e .before .before .before .args .self) 0 13 1 1 tt tt (e .before .own-number .ensures) (e .if1 .left) (c .before .before .before .before .before .joined .ensures) (c .before .before .before .before .settled .ensures) (c .before .before .write .ensures)
+unfolding ownRows
+returns-2 c = is-said taking (c .before .before .before .before .before .before .before .before .before .before .args .self) (c .before .before .before .before .before .before .before .before .own-number .ensures) (c .before .before .before .before .before .before .before .if1 .left) (c .before .before .before .before .before .joined .ensures) (c .before .before .before .before .settled .ensures) (c .before .before .write .ensures)
 
 pub take-spec : {M : Type 1} → statement M
 take-spec =

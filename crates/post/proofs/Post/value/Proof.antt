@@ -13,8 +13,8 @@ use Rattle.laws.proofs.Ladders.{on, off}
 use Rattle.laws.proofs.IntLaws.{minus-fits}
 use Rattle.post.specs.Sound.{sound}
 use Rattle.post.specs.Calls.{valued}
-use Rattle.post.proofs.SoundFacts.{sound-has}
-use Rattle.post.proofs.Values.{counts-small}
+use Rattle.post.proofs.Sound.Facts.{sound-has}
+use Rattle.post.proofs.Fields.Values.{counts-small}
 use Rattle.post.proofs.Post.value.Statement.{statement}
 use Rattle.post.proofs.Post.value.Tie as tie
 

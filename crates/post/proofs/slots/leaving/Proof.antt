@@ -8,7 +8,7 @@ use lib.ListN.{length, getD, take}
 use lib.Seq.{slice, length-take-le}
 use Rattle.laws.proofs.ScanLaws.{one-left, none-left}
 use Rattle.frame.specs.Message.{blank}
-use Rattle.post.proofs.Leaving.{Leaves, begun, ended, stopped, turned, small}
+use Rattle.post.proofs.Works.Leaving.{Leaves, begun, ended, stopped, turned, small}
 use Rattle.post.proofs.slots.leaving.Statement.{statement}
 use Rattle.post.proofs.slots.leaving.Tie as tie
 

@@ -12,7 +12,7 @@ use Rattle.laws.specs.Lists.{all}
 use Rattle.laws.proofs.ScanLaws.{one-left, none-left}
 use Rattle.frame.specs.Message.{blank}
 use Rattle.post.specs.Sound.{isBlank}
-use Rattle.post.proofs.Looking.{Going, begun, foreign, unfit, low, takes-small, returns-small, each-small, turned, looked, wrong, used, full-slot, blank-slot, no-slot}
+use Rattle.post.proofs.Works.Looking.{Going, begun, foreign, unfit, low, takes-small, returns-small, each-small, turned, looked, wrong, used, full-slot, blank-slot, no-slot}
 use Rattle.post.proofs.slots.look.Statement.{statement}
 use Rattle.post.proofs.slots.look.Tie as tie
 
@@ -62,11 +62,11 @@ add-counts c =
     let h = each-small _ _ _ _ _ (going (c .before .before .before .before .before .before .before .before)) (few (c .before .before .before .before .before .before .before .before .before .before)) q (omega arith) in
     record { fits = omega arith }
 
-tally-requires : tie.Need-tally-requires Inv-loop μ-loop Inv-loop2 μ-loop2
-tally-requires c κs = takes-small _ _ _ _ _ (going (c .before .before .before .before .before .before .before .before .before .before)) (few (c .before .before .before .before .before .before .before .before .before .before .before .before))
+one-kind-requires : tie.Need-one-kind-requires Inv-loop μ-loop Inv-loop2 μ-loop2
+one-kind-requires c κs = let h = takes-small _ _ _ _ _ (going (c .before .before .before .before .before .before .before .before .before .before)) (few (c .before .before .before .before .before .before .before .before .before .before .before .before)) in omega arith
 
-tally-requires-2 : tie.Need-tally-requires-2 Inv-loop μ-loop Inv-loop2 μ-loop2
-tally-requires-2 c κs = returns-small _ _ _ _ _ (going (c .before .before .before .before .before .before .before .before .before .before .before)) (few (c .before .before .before .before .before .before .before .before .before .before .before .before .before))
+one-kind-requires-2 : tie.Need-one-kind-requires-2 Inv-loop μ-loop Inv-loop2 μ-loop2
+one-kind-requires-2 c κs = let h = returns-small _ _ _ _ _ (going (c .before .before .before .before .before .before .before .before .before .before .before)) (few (c .before .before .before .before .before .before .before .before .before .before .before .before .before)) in omega arith
 
 loop-again : tie.Need-loop-again Inv-loop μ-loop Inv-loop2 μ-loop2
 loop-again c =
@@ -126,8 +126,8 @@ look-spec =
     (λ c. search needs)
     add-counts
     (λ c. search needs)
-    tally-requires
-    tally-requires-2
+    one-kind-requires
+    one-kind-requires-2
     (λ c. search needs)
     (λ c. search needs)
     loop-again
