@@ -1,13 +1,13 @@
 -- The record of a queue that calls made is sound. Assumes nothing.
 use mathlib.Core.Path.{_≡_, refl, sym, ap, _∙_, subst}
-use mathlib.Core.Bool.{Bool, true, false, cond, _&&_}
+use mathlib.Core.Bool.{Bool, true, false, not, cond, _&&_}
 use mathlib.Core.List.{List}
 use Prim.Native.Nat.{ℕ, _+_, _-_, _≤_, _<_}
 use native.Mathlib.Omega.{arith}
-use lib.Dec.{T, leb, ltb, T-not, le→leb, lt→ltb, nleb→lt, eqb→eq, leb→le}
+use lib.Dec.{T, leb, eqb, T-not, le→leb, nleb→lt, eqb→eq, leb→le}
 use lib.ListN.{length, drop, replicate, length-replicate}
 use lib.Seq.{drop-at}
-use lib.Ieee.Bits.{is-true, is-false}
+use lib.Ieee.Bits.{is-true}
 use mir.Facts.{yes-and}
 use Rattle.laws.specs.Lists.{In, many, Rising, upto}
 use Rattle.laws.proofs.Tests.{test}
@@ -16,7 +16,8 @@ use Rattle.laws.proofs.ScanLaws.{many-length}
 use Rattle.laws.proofs.CountLaws.{length-none}
 use Rattle.frame.specs.declared.Message.{Message}
 use Rattle.frame.specs.Message.{blank, isTake, isReturn, stamp, by, ownTake, ownReturn}
-use Rattle.queue.specs.Queue.{Start, Queue, clock, last, heard, settled, waiting, takes, number, room, latest, phase, order}
+use Rattle.calls.specs.declared.Start.{Start}
+use Rattle.queue.specs.Queue.{Queue, clock, last, heard, settled, waiting, takes, number, room, free, latest, phase, order}
 use Rattle.queue.proofs.Good.{Sorted, le-last}
 use Rattle.queue.proofs.Heard.{at-heard}
 use Rattle.queue.proofs.Granted.{latest-most, latest-in}
@@ -26,12 +27,13 @@ use Rattle.queue.proofs.Clocks.{last-none, last-le-clock}
 use Rattle.queue.proofs.Fitting.{Fitting}
 use Rattle.queue.proofs.Totals.{total-fits, one-take, no-take, none-own, waits-few}
 use Rattle.post.specs.Record.{lastOf, inSlots}
+use Rattle.post.specs.Settle as post
 use Rattle.post.specs.Sound.{endKind, ownFits, ownFew, orderFits, sound}
-use Rattle.post.proofs.Ranges.{Range}
-use Rattle.post.proofs.SoundPasses.{sound-passes}
-use Rattle.post.proofs.OwnTakes.{end-of-own}
-use Rattle.feeder.specs.Image.{image}
-use Rattle.feeder.proofs.ImageParts.{floorOf, image-waiting, image-last, image-floor, heard-floor}
+use Rattle.calls.proofs.Ranges.{Range}
+use Rattle.post.proofs.Sound.Passes.{sound-passes}
+use Rattle.post.proofs.Own.Takes.{end-of-own}
+use Rattle.beside.specs.Image.{image}
+use Rattle.beside.proofs.ImageParts.{floorOf, image-waiting, image-last, image-floor, heard-floor}
 
 -- ---- the rules on the own messages and on the order number, by phase
 
@@ -52,22 +54,20 @@ numbered-fits phase takes returns end false p t r = rw (p, t, r) tt
 abbrev ownFit : Start → Queue → List Message → Bool
 ownFit st q ms = ownFits (phase st q) (many (ownTake (st .own)) ms) (many (ownReturn (st .own)) ms) (endKind (st .own) 0 ms)
 
-low-order : (phase order takes room : ℕ) → phase ≤ 1 → order ≡ 0 → T (orderFits phase order takes room)
+low-order : (phase order takes : ℕ) (can : Bool) → phase ≤ 1 → order ≡ 0 → T (orderFits phase order takes can)
 unfolding orderFits
-low-order phase order takes room p o = rw (is-true (leb phase 1) (le→leb phase 1 p), o) tt
+low-order phase order takes can p o = rw (is-true (leb phase 1) (le→leb phase 1 p), o) tt
 
-numbered-order : (phase order takes room : ℕ) → phase ≡ cond (leb order room) 3 2 → 0 < order → order ≤ takes → T (orderFits phase order takes room)
+numbered-order : (phase order takes : ℕ) (can : Bool) → phase ≡ cond can 3 2 → 0 < order → order ≤ takes → T (orderFits phase order takes can)
 unfolding orderFits
-numbered-order phase order takes room p a b =
-    test (leb order room)
-    (λ y. rw (p ∙ ap three (is-true (leb order room) y)) (rest (leb order room) y))
-    (λ n. rw (p ∙ ap three (is-false (leb order room) n)) (rest (ltb room order) (lt→ltb room order (nleb→lt order room n))))
+numbered-order phase order takes can p a b = rw p (go can)
   where
-    three : Bool → ℕ
-    three b = cond b 3 2
-
     rest : (x : Bool) → T x → T (leb 1 order && (leb order takes && x))
     rest x t = yes-and (leb 1 order) _ (le→leb 1 order a) (yes-and (leb order takes) x (le→leb order takes b) t)
+
+    go : (c : Bool) → T (cond (leb (cond c 3 2) 1) (eqb order 0) (leb 1 order && (leb order takes && cond (eqb (cond c 3 2) 3) c (not c))))
+    go true = rest true tt
+    go false = rest true tt
 
 module _ (st : Start) (q : Queue) (k : Fitting st q) where
   abbrev g : Sorted st q
@@ -80,7 +80,7 @@ module _ (st : Start) (q : Queue) (k : Fitting st q) where
       (λ t.
       test (heard st q l)
       (λ h.
-      numbered-fits _ _ _ _ (leb (number st q l) (room st q)) (phase-numbered st q t h) (none-own st q k h isTake)
+      numbered-fits _ _ _ _ (free st q l) (phase-numbered st q t h) (none-own st q k h isTake)
       (none-own st q k h isReturn))
       (λ n.
       asked-fits _ _ _ _ (phase-asked st q t n) (one-take st q k t n) (k .own)
@@ -90,9 +90,10 @@ module _ (st : Start) (q : Queue) (k : Fitting st q) where
       ∙ eqb→eq (l .kind) 1 t)))
       (λ n. idle-fits _ _ _ _ (phase-idle st q n) (no-take st q k n) (k .own))
 
-  order-fits : T (orderFits (phase st q) (order st q) (many isTake (settled st q)) (room st q))
+  order-fits : T (orderFits (phase st q) (order st q) (many isTake (settled st q)) (post.free (image st q)))
   order-fits =
       let l = latest st q in
+      let can = post.free (image st q) in
       test (isTake l)
       (λ t.
       test (heard st q l)
@@ -100,9 +101,10 @@ module _ (st : Start) (q : Queue) (k : Fitting st q) where
       let e = order-numbered st q t h in
       let s = number-some st q t h in
       let m : number st q l ≤ many isTake (settled st q) = unfold upto in many-length (λ x. leb (stamp x) (stamp l)) (takes st q) in
-      numbered-order _ (order st q) _ (room st q) (rw e (phase-numbered st q t h)) (omega arith) (omega arith))
-      (λ n. let e = phase-asked st q t n in low-order _ _ _ _ (omega arith) (order-asked st q t n)))
-      (λ n. let e = phase-idle st q n in low-order _ _ _ _ (omega arith) (order-idle st q n))
+      let f : free st q l ≡ can = unfold free room post.free image in ap (λ (n : ℕ). leb n (st .places + many isReturn (settled st q))) (sym e) in
+      numbered-order _ (order st q) _ can (phase-numbered st q t h ∙ ap (λ (b : Bool). cond b 3 2) f) (omega arith) (omega arith))
+      (λ n. let e = phase-asked st q t n in low-order _ _ _ can (omega arith) (order-asked st q t n)))
+      (λ n. let e = phase-idle st q n in low-order _ _ _ can (omega arith) (order-idle st q n))
 
   -- every other post has been heard where there is none
   none-alone : st .posts ≡ 1 → length (waiting st q) ≡ 0
@@ -123,8 +125,8 @@ module _ (st : Start) (q : Queue) (k : Fitting st q) where
       let e = drop-at (waiting st q) (replicate n blank) (length (waiting st q)) refl in
       e ∙ ap (λ (x : ℕ). replicate x blank) (sym (ap length e ∙ length-replicate n blank))
 
-  pub image-sound : Range (st .posts) (st .own) (st .feeder) (st .places) → T (sound (image st q))
-  unfolding image ownFew room
+  pub image-sound : Range st → T (sound (image st q))
+  unfolding image ownFew
   image-sound r =
       let w = image-waiting st q in
       let last-is = image-last st q g in

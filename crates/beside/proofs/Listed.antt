@@ -6,7 +6,7 @@ use lib.Dec.{eqb, eqb→eq}
 use lib.ListN.{length, getD, set, length-set}
 use lib.Seq.{ext-getD, getD-set-same, getD-set-other}
 use Rattle.laws.proofs.Tests.{test, neqb→ne}
-use Rattle.feeder.specs.Image.{listFrom}
+use Rattle.beside.specs.Image.{listFrom}
 
 pub length-listFrom : (i n : ℕ) (f : ℕ → ℕ) → length (listFrom i n f) ≡ n
 unfolding listFrom

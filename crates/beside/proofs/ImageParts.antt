@@ -9,18 +9,21 @@ use lib.Dec.{T, ltb, ltb→lt, nltb→le}
 use lib.ListN.{length, take, replicate, List·getD-eq-default}
 use lib.Seq.{take-at}
 use Rattle.laws.specs.Below.{leastTo}
-use Rattle.laws.specs.Lists.{In}
+use Rattle.laws.specs.Lists.{In, many}
 use Rattle.laws.proofs.Tests.{test}
 use Rattle.laws.proofs.LeastLaws.{least-le, le-least, least-cong}
 use Rattle.frame.specs.declared.Message.{Message}
-use Rattle.frame.specs.Message.{blank, lastCounter, stampOf, stamp}
-use Rattle.queue.specs.Queue.{Start, Queue, clock, last, lastStamp, heard, waiting}
+use Rattle.frame.specs.Message.{blank, lastCounter, stampOf, stamp, by}
+use Rattle.calls.specs.declared.Start.{Start}
+use Rattle.queue.specs.Queue.{Queue, clock, last, lastStamp, heard, waiting, phase}
+use Rattle.queue.specs.Calls.{view}
 use Rattle.queue.proofs.Good.{Sorted, le-clock}
 use Rattle.queue.proofs.Heard.{heard-at, at-heard}
 use Rattle.queue.proofs.Clocks.{last-none}
 use Rattle.post.specs.Record.{lastOf, waitingOf, floor, inSlots}
-use Rattle.feeder.specs.Image.{listFrom, image}
-use Rattle.feeder.proofs.Listed.{length-listFrom, listFrom-at}
+use Rattle.post.specs.Calls.{viewOf}
+use Rattle.beside.specs.Image.{listFrom, image}
+use Rattle.beside.proofs.Listed.{length-listFrom, listFrom-at}
 
 -- the least last stamp of the other posts
 abbrev pub floorOf : Start → Queue → ℕ
@@ -51,6 +54,17 @@ module _ (st : Start) (q : Queue) where
     pub image-floor : floor (image st q) ≡ floorOf st q
     unfolding floor image
     image-floor = least-cong (st .posts) (st .own) (2 ^ 40) _ (λ r. lastStamp r q) (λ r l. ap (λ (x : ℕ). stampOf x r) (image-last r))
+
+    -- the table sees of the record of a queue what it sees of the queue
+    pub image-view : viewOf (image st q) ≡ view st q
+    unfolding image
+    image-view = λ i. record {
+      start = st;
+      clock = clock q;
+      phase = phase st q;
+      last = λ r. image-last r i;
+      waits = λ r. many (by r) (image-waiting i);
+    }
 
     -- settled is at or below the floor
     pub heard-floor : clock q ≤ lastCounter → (m : Message) → In m q → T (heard st q m) ↔ (stamp m ≤ floorOf st q)

@@ -15,21 +15,23 @@ use Rattle.laws.proofs.Tests.{test, neqb→ne}
 use Rattle.laws.proofs.RefusalLaws.{unless-both}
 use Rattle.laws.proofs.RisingLaws.{keep-put-no}
 use Rattle.frame.specs.declared.Message.{Message}
-use Rattle.frame.specs.Message.{stamp, by}
-use Rattle.frame.specs.Frame.{frame, over, fieldsOf}
-use Rattle.frame.specs.Table.{takeTests, returnTests}
-use Rattle.queue.specs.Queue.{Start, Queue, clock, phase}
-use Rattle.queue.specs.Replies.{Call, take-call, return-call, receive-call, value-call, missing-call, Answer, told, refused}
-use Rattle.queue.specs.Calls.{saying, say, acks, accept, receiveRows, said, received, onQueue}
+use Rattle.frame.specs.Message.{ackKind, stamp, by}
+use Rattle.frame.specs.Frame.{size, frame, over, fieldsOf}
+use Rattle.calls.specs.Own.{rowOf}
+use Rattle.calls.specs.Table.{ownTests, receiveTests}
+use Rattle.calls.specs.declared.Start.{Start}
+use Rattle.queue.specs.Queue.{Queue}
+use Rattle.calls.specs.Replies.{Call, own-call, receive-call, value-call, missing-call, Answer, told, refused}
+use Rattle.calls.specs.View.{acks}
+use Rattle.queue.specs.Calls.{view, saying, say, accept, said, received, onQueue}
 use Rattle.queue.proofs.Good.{Sorted, New, sorted-new}
 use Rattle.queue.proofs.Changes.{receives-new}
 use Rattle.queue.proofs.Parts.{keep-say-last, others-said, others-accepted, sender-accepted}
-use Rattle.feeder.specs.Records.{written, done}
+use Rattle.beside.specs.Records.{written, done}
 
 -- the call brings a message of post r
 abbrev pub brings : Call → ℕ → Bool
-brings (take-call lent) r = false
-brings (return-call lent) r = false
+brings (own-call o lent) r = false
 brings (receive-call s lent) r = eqb r (fieldsOf s .message .sender)
 brings value-call r = false
 brings missing-call r = false
@@ -42,8 +44,8 @@ pub record Tells (st : Start) (q : Queue) (c : Call) (a : Answer Queue) : Type 0
   -- what it has of another is one more where a message of that post was accepted
   pub others : (r : ℕ) → (r ≡ st .own → ⊥) → length (keep (by r) (a .next)) ≡ length (keep (by r) q) + one? (brings c r && done (a .reply))
 
-one-frame : (f : ℕ) (m : Message) (rest : List ℕ) → take 12 (frame f m ++ rest) ≡ frame f m
-one-frame f m rest = take-at (frame f m) rest 12 (unfold frame in refl)
+one-frame : (f : ℕ) (m : Message) (rest : List ℕ) → take size (frame f m ++ rest) ≡ frame f m
+one-frame f m rest = take-at (frame f m) rest size (unfold frame in refl)
 
 module _ (st : Start) (q : Queue) where
   refusal-tells : (c : Call) (lent : List ℕ) (n : ℕ) → T (not (eqb n 0)) → Tells st q c (refused q lent n)
@@ -64,11 +66,11 @@ module _ (st : Start) (q : Queue) where
 
   module _ (g : Sorted st q) where
     said-tells : (c : Call) (kind : ℕ) (granted : Bool) (lent : List ℕ) → ((r : ℕ) → brings c r ≡ false)
-        → Tells st q c (record { next = say st kind q; reply = told 0 true granted (over (st .feeder) (saying st kind q) lent) })
+        → Tells st q c (record { next = say st kind q; reply = told (record { number = 0; wrote = true; granted = granted; lent = over (st .feeder) (saying st kind q) lent }) })
     said-tells c kind granted lent b = record {
       said = saying st kind q ∷ [];
       sends = keep-say-last st q (by (st .own)) g kind (unfold saying in eqb-refl (st .own));
-      writes = ap (λ (l : List ℕ). l ∷ []) (one-frame (st .feeder) (saying st kind q) (drop 12 lent));
+      writes = ap (λ (l : List ℕ). l ∷ []) (one-frame (st .feeder) (saying st kind q) (drop size lent));
       others = λ r d. let k = ap length (others-said st q kind r d) in rw (b r) (omega arith);
     }
 
@@ -83,26 +85,29 @@ module _ (st : Start) (q : Queue) where
       abbrev p : Queue
       p = put stamp m q
 
+      abbrev wrote : Bool
+      wrote = acks (view st q) m
+
       -- of its own the acknowledgment, if there is one
-      own-after : keep (by (st .own)) (accept st q m) ≡ keep (by (st .own)) q ++ cond (acks m) (saying st 3 p ∷ []) []
+      own-after : keep (by (st .own)) (accept st q m) ≡ keep (by (st .own)) q ++ cond wrote (saying st ackKind p ∷ []) []
       unfolding accept
       own-after =
           let e = keep-put-no stamp (by (st .own)) m q (not-T (by (st .own) m) (λ y. w .other (eqb→eq (m .sender) (st .own) y))) in
-          go (acks m) e
+          go wrote e
         where
           go : (b : Bool) → keep (by (st .own)) p ≡ keep (by (st .own)) q
-              → keep (by (st .own)) (cond b (say st 3 p) p) ≡ keep (by (st .own)) q ++ cond b (saying st 3 p ∷ []) []
+              → keep (by (st .own)) (cond b (say st ackKind p) p) ≡ keep (by (st .own)) q ++ cond b (saying st ackKind p ∷ []) []
           go true e =
-              keep-say-last st p (by (st .own)) (sorted-new st q g m w) 3 (unfold saying in eqb-refl (st .own))
-              ∙ ap (λ (l : List Message). l ++ (saying st 3 p ∷ [])) e
+              keep-say-last st p (by (st .own)) (sorted-new st q g m w) ackKind (unfold saying in eqb-refl (st .own))
+              ∙ ap (λ (l : List Message). l ++ (saying st ackKind p ∷ [])) e
           go false e = e ∙ sym (append-nil (keep (by (st .own)) q))
 
       accepted-tells : Tells st q (receive-call s lent)
-          (record { next = accept st q m; reply = told 0 (acks m) granted (cond (acks m) (over (st .feeder) (saying st 3 p) lent) lent) })
+          (record { next = accept st q m; reply = told (record { number = 0; wrote = wrote; granted = granted; lent = cond wrote (over (st .feeder) (saying st ackKind p) lent) lent }) })
       accepted-tells = record {
-        said = cond (acks m) (saying st 3 p ∷ []) [];
+        said = cond wrote (saying st ackKind p ∷ []) [];
         sends = own-after;
-        writes = go (acks m);
+        writes = go wrote;
         others = λ r d.
             test (eqb r (m .sender))
             (λ y.
@@ -113,17 +118,17 @@ module _ (st : Start) (q : Queue) where
             (λ n. let k = ap length (others-accepted st q r m d (neqb→ne r (m .sender) n)) in rw (is-false (eqb r (m .sender)) n) (omega arith));
       }
         where
-          go : (b : Bool) → written (told 0 b granted (cond b (over (st .feeder) (saying st 3 p) lent) lent))
-              ≡ map (frame (st .feeder)) (cond b (saying st 3 p ∷ []) [])
-          go true = ap (λ (l : List ℕ). l ∷ []) (one-frame (st .feeder) (saying st 3 p) (drop 12 lent))
+          go : (b : Bool) → written (told (record { number = 0; wrote = b; granted = granted; lent = cond b (over (st .feeder) (saying st ackKind p) lent) lent }))
+              ≡ map (frame (st .feeder)) (cond b (saying st ackKind p ∷ []) [])
+          go true = ap (λ (l : List ℕ). l ∷ []) (one-frame (st .feeder) (saying st ackKind p) (drop size lent))
           go false = refl
 
     pub tells : (c : Call) → Tells st q c (onQueue st q c)
     unfolding onQueue said received
-    tells (take-call lent) = unless-tells (take-call lent) (takeTests (phase st q) (clock q) (length lent)) lent (said st q 1 lent) (λ y. said-tells (take-call lent) 1 _ lent (λ r. refl))
-    tells (return-call lent) = unless-tells (return-call lent) (returnTests (phase st q) (clock q) (length lent)) lent (said st q 2 lent) (λ y. said-tells (return-call lent) 2 _ lent (λ r. refl))
+    tells (own-call o lent) =
+        unless-tells (own-call o lent) (ownTests o (view st q) (length lent)) lent (said st q o lent) (λ y. said-tells (own-call o lent) (rowOf o .kind) _ lent (λ r. refl))
     tells (receive-call s lent) =
-        unless-tells (receive-call s lent) (receiveRows st q s (length lent)) lent (received st q (fieldsOf s .message) lent)
+        unless-tells (receive-call s lent) (receiveTests (view st q) s (length lent)) lent (received st q (fieldsOf s .message) lent)
         (λ z. accepted-tells s lent _ (receives-new st q s (length lent) z))
     tells value-call = unchanged-tells value-call (onQueue st q value-call) refl refl (λ r. refl)
     tells missing-call = unchanged-tells missing-call (onQueue st q missing-call) refl refl (λ r. refl)

@@ -1,20 +1,19 @@
 -- Demand 2: the short record answers as the full queue does. What is stated; `proofs/` proves it.
-use Rattle.laws.specs.{Words.{_≡_, false, not, List, [], _∷_, T, pos}, Big.{Bytes}}
-use Rattle.post.specs.Sound.{inRange}
-use Rattle.queue.specs.Queue.{Start, phase, order}
-use Rattle.queue.specs.{Replies.{Call, take-call, return-call, receive-call, value-call, missing-call, Reply, told, worth, lacking, after, replies}, Calls.{onQueue}}
-use Rattle.feeder.specs.{Image.{image}, OnRecord.{onRecord, startedPost}}
+use Rattle.laws.specs.{Words.{_≡_, not, List, [], _∷_, T, pos}, Big.{Bytes}}
+use Rattle.calls.specs.{declared.Start.{Start}, Start.{inRange}}
+use Rattle.calls.specs.Replies.{Call, own-call, receive-call, value-call, missing-call, Reply, worth, lacking, refusing, after, replies}
+use Rattle.queue.specs.{Queue.{phase, order}, Calls.{onQueue}}
+use Rattle.beside.specs.{Image.{image}, OnRecord.{onRecord, startedPost}}
 
 -- the start is accepted
 abbrev pub Accepted : Start → Type 0
-Accepted st = T (inRange (st .posts) (st .own) (st .feeder) (st .places))
+Accepted st = T (inRange st)
 
 -- frames are bytes; lent buffers may hold anything
 abbrev pub FramesAreBytes : List Call → Type 0
 FramesAreBytes [] = Unit
 FramesAreBytes (receive-call s lent ∷ calls) = Bytes s × FramesAreBytes calls
-FramesAreBytes (take-call lent ∷ calls) = FramesAreBytes calls
-FramesAreBytes (return-call lent ∷ calls) = FramesAreBytes calls
+FramesAreBytes (own-call o lent ∷ calls) = FramesAreBytes calls
 FramesAreBytes (value-call ∷ calls) = FramesAreBytes calls
 FramesAreBytes (missing-call ∷ calls) = FramesAreBytes calls
 
@@ -34,13 +33,12 @@ SideBySide = (st : Start) → Accepted st → (calls : List Call) → FramesAreB
 
 -- what a call gives that is refused with 1
 abbrev pub refusedOne : Call → Reply
-refusedOne (take-call lent) = told 1 false false lent
-refusedOne (return-call lent) = told 1 false false lent
-refusedOne (receive-call s lent) = told 1 false false lent
+refusedOne (own-call o lent) = refusing lent 1
+refusedOne (receive-call s lent) = refusing lent 1
 refusedOne value-call = worth 1 (pos 0)
 refusedOne missing-call = lacking 1 0 0
 
 -- a refused start has no queue: every later call gives 1 and changes nothing
 abbrev pub RefusedStart : Type 0
-RefusedStart = (st : Start) → T (not (inRange (st .posts) (st .own) (st .feeder) (st .places))) → (c : Call)
+RefusedStart = (st : Start) → T (not (inRange st)) → (c : Call)
     → (onRecord (startedPost st) c .reply ≡ refusedOne c) × (onRecord (startedPost st) c .next ≡ startedPost st)

@@ -4,39 +4,38 @@ use mathlib.Core.List.{List, [], _∷_}
 use native.Mathlib.Omega.{arith}
 use lib.Dec.{T}
 use Rattle.frame.proofs.FrameFields.{counter-fits}
-use Rattle.queue.specs.Queue.{Start, Queue}
-use Rattle.queue.specs.Replies.{Call, take-call, return-call, receive-call, value-call, missing-call, after, replies}
+use Rattle.calls.specs.declared.Start.{Start}
+use Rattle.queue.specs.Queue.{Queue}
+use Rattle.calls.specs.Replies.{Call, own-call, receive-call, value-call, missing-call, after, replies}
 use Rattle.queue.specs.Calls.{onQueue}
 use Rattle.queue.proofs.Changes.{change}
 use Rattle.queue.proofs.Fitting.{Fitting, CounterFits, fitting-change}
 use Rattle.post.specs.declared.Post.{Post}
 use Rattle.post.specs.Sound.{sound}
-use Rattle.post.proofs.Ranges.{range-is}
-use Rattle.feeder.specs.Image.{image}
-use Rattle.feeder.specs.OnRecord.{onRecord}
-use Rattle.feeder.specs.Demand2.{Accepted, FramesAreBytes, Demand2, SameRecord, SideBySide, RefusedStart}
-use Rattle.feeder.proofs.ImageSound.{image-sound}
-use Rattle.feeder.proofs.Answers.{Same, take-same, return-same, receive-same}
-use Rattle.feeder.proofs.Inquiries.{value-same, missing-same}
-use Rattle.feeder.proofs.Starts.{started-image, started-fits, refuses}
+use Rattle.calls.proofs.Ranges.{range-is}
+use Rattle.beside.specs.Image.{image}
+use Rattle.beside.specs.OnRecord.{onRecord}
+use Rattle.beside.specs.Demand2.{Accepted, FramesAreBytes, Demand2, SameRecord, SideBySide, RefusedStart}
+use Rattle.beside.proofs.ImageSound.{image-sound}
+use Rattle.beside.proofs.Answers.{Same, own-same, receive-same}
+use Rattle.beside.proofs.Inquiries.{value-same, missing-same}
+use Rattle.beside.proofs.Starts.{started-image, started-fits, refuses}
 
 -- one call on the record of a queue answers as on the queue, and leaves the record of the queue after it
 by-call : (st : Start) (q : Queue) → Fitting st q → T (sound (image st q)) → (c : Call) → CounterFits c
     → Same st (onRecord (image st q) c) (onQueue st q c)
-by-call st q k s (take-call lent) f = take-same st q k s lent
-by-call st q k s (return-call lent) f = return-same st q k s lent
+by-call st q k s (own-call o lent) f = own-same st q k s o lent
 by-call st q k s (receive-call frame lent) f = receive-same st q k s frame lent f
 by-call st q k s value-call f = value-same st q k s
 by-call st q k s missing-call f = missing-same st q k s
 
 pub one-call : (st : Start) → Accepted st → (q : Queue) → Fitting st q → (c : Call) → CounterFits c
     → Same st (onRecord (image st q) c) (onQueue st q c)
-one-call st a q k = by-call st q k (image-sound st q k (range-is (st .posts) (st .own) (st .feeder) (st .places) a))
+one-call st a q k = by-call st q k (image-sound st q k (range-is st a))
 
 -- the counter of a frame of bytes fits
 counters-fit : (c : Call) (calls : List Call) → FramesAreBytes (c ∷ calls) → CounterFits c × FramesAreBytes calls
-counters-fit (take-call lent) calls b = (tt, b)
-counters-fit (return-call lent) calls b = (tt, b)
+counters-fit (own-call o lent) calls b = (tt, b)
 counters-fit (receive-call s lent) calls b = let h = counter-fits s (b .0) in (omega arith, b .1)
 counters-fit value-call calls b = (tt, b)
 counters-fit missing-call calls b = (tt, b)

@@ -9,8 +9,9 @@ use Rattle.laws.specs.Below.{one?, countTo, bitsTo}
 use Rattle.laws.proofs.Tests.{test}
 use Rattle.laws.proofs.BelowLaws.{sumTo-cong}
 use Rattle.frame.specs.Message.{stampOf, stamp, by}
-use Rattle.queue.specs.Queue.{Start, Queue, waiting, room, latest, phase, value, lacks}
-use Rattle.queue.specs.Replies.{value-call, missing-call, worth, lacking}
+use Rattle.calls.specs.declared.Start.{Start}
+use Rattle.queue.specs.Queue.{Queue, waiting, latest, phase, value, lacks}
+use Rattle.calls.specs.Replies.{value-call, missing-call, worth, lacking}
 use Rattle.queue.specs.Calls.{onQueue}
 use Rattle.queue.proofs.Good.{Sorted}
 use Rattle.queue.proofs.Granted.{latest-in}
@@ -21,18 +22,18 @@ use Rattle.post.specs.declared.Value.{Value}
 use Rattle.post.specs.declared.Missing.{Missing}
 use Rattle.post.specs.Sound.{sound}
 use Rattle.post.specs.Calls as post
-use Rattle.post.proofs.OwnTakes.{stamp-of-own}
-use Rattle.feeder.specs.Image.{image}
-use Rattle.feeder.specs.OnRecord.{onRecord}
-use Rattle.feeder.proofs.ImageParts.{image-waiting, image-last}
-use Rattle.feeder.proofs.Answers.{Same}
+use Rattle.post.proofs.Own.Takes.{stamp-of-own}
+use Rattle.beside.specs.Image.{image}
+use Rattle.beside.specs.OnRecord.{onRecord}
+use Rattle.beside.proofs.ImageParts.{image-waiting, image-last}
+use Rattle.beside.proofs.Answers.{Same}
 
 module _ (st : Start) (q : Queue) (k : Fitting st q) (s : T (sound (image st q))) where
   abbrev g : Sorted st q
   g = k .kept .good .sorted
 
   pub value-same : Same st (onRecord (image st q) value-call) (onQueue st q value-call)
-  unfolding onRecord onQueue post.valued value room
+  unfolding onRecord onQueue post.valued value
   value-same =
       let e : post.valued (image st q) ≡ record { number = 0; value = value st q } = rw (is-true (sound (image st q)) s) (unfold image in refl) in
       record { next = refl; reply = ap (λ (v : Value). worth (v .number) (v .value)) e }

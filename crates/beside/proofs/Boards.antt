@@ -17,21 +17,21 @@ use Rattle.frame.specs.Message.{by}
 use Rattle.frame.specs.Frame.{frame}
 use Rattle.frame.proofs.FrameFields.{frame-fields}
 use Rattle.queue.specs.Queue.{Queue, settled, grants}
-use Rattle.queue.specs.Replies.{Call, take-call, return-call, receive-call}
+use Rattle.calls.specs.Replies.{Call, own-call, receive-call}
 use Rattle.queue.specs.Calls.{onQueue}
-use Rattle.queue.specs.Feeder.{Line, start, Feeder, fresh, sent, had, pending, Act, takeAt, returnAt, deliver, none, at-post, buffer, offered, comesTo, afterMade, run}
+use Rattle.queue.specs.Feeder.{Line, start, Feeder, fresh, sent, had, pending, Act, own-at, deliver, none, at-post, buffer, offered, comesTo, afterMade, run}
 use Rattle.queue.specs.Demand3.{marked}
 use Rattle.queue.proofs.Changes.{change}
 use Rattle.queue.proofs.Grants.{grants-after}
 use Rattle.queue.proofs.Fitting.{Fitting, CounterFits, fitting-change}
 use Rattle.queue.proofs.Runs.{Ran, in-width, ran-act}
 use Rattle.post.specs.declared.Post.{Post}
-use Rattle.feeder.specs.Image.{image}
-use Rattle.feeder.specs.OnRecord.{onRecord}
-use Rattle.feeder.specs.Records.{Board, Boards, begun, written, done, called, with-board, offers, acted, runBoards, LineFits}
-use Rattle.feeder.proofs.Starts.{started-image, started-fits}
-use Rattle.feeder.proofs.Demand2.{one-call}
-use Rattle.feeder.proofs.Tells.{brings, tells}
+use Rattle.beside.specs.Image.{image}
+use Rattle.beside.specs.OnRecord.{onRecord}
+use Rattle.beside.specs.Records.{Board, Boards, begun, written, done, called, with-board, offers, acted, runBoards, LineFits}
+use Rattle.beside.proofs.Starts.{started-image, started-fits}
+use Rattle.beside.proofs.Demand2.{one-call}
+use Rattle.beside.proofs.Tells.{brings, tells}
 
 -- the board of post p has what its full queue has
 pub record Mirrors (L : Line) (p : ℕ) (b : Board) (q : Queue) : Type 0 where
@@ -139,8 +139,7 @@ module _ (L : Line) (fits : LineFits L) (narrow : L .feeder ≤ 255) (s : Boards
 
   matches-act : (a : Act) → Matches L (acted L s a) (afterMade L f (comesTo L f a))
   unfolding acted comesTo pending
-  matches-act (takeAt p) = at-own p (take-call buffer) tt (λ r. refl)
-  matches-act (returnAt p) = at-own p (return-call buffer) tt (λ r. refl)
+  matches-act (own-at o p) = at-own p (own-call o buffer) tt (λ r. refl)
   matches-act (deliver p q) = go (ltb p (L .posts) && (ltb q (L .posts) && not (eqb p q))) ready
     where
       ready : T (ltb p (L .posts) && (ltb q (L .posts) && not (eqb p q)))

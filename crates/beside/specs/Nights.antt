@@ -1,12 +1,12 @@
 -- Document 01's nights P1 to P10: for each, the calls at one post, every reply in full, and what the post has at the end.
 -- `proofs/NightsHold` reckons all of them through, over the short record and over the full queue.
-use Rattle.laws.specs.{Words.{true, false, List, [], _∷_, _++_, map, _≡_, ℕ, _^_, pos, negsuc}, Lists.{many}, Below.{leastTo}}
-use Rattle.frame.specs.{declared.Message.{Message}, Message.{msg, isTake, isReturn, stampOf}, Frame.{frame}}
+use Rattle.laws.specs.{Words.{Bool, true, false, List, [], _∷_, _++_, map, _≡_, ℕ, _^_, pos, negsuc}, Lists.{many}, Below.{leastTo}}
+use Rattle.frame.specs.{declared.Message.{Message}, Message.{msg, takeKind, returnKind, ackKind, isTake, isReturn, stampOf}, Frame.{frame}}
+use Rattle.calls.specs.{declared.Start.{Start}, Start.{starting}, Own.{taking, returning}}
+use Rattle.calls.specs.Replies.{Call, own-call, receive-call, value-call, missing-call, Reply, told, worth, lacking, refusing, after, replies}
 use Rattle.post.specs.Record.{lastOf, waitingOf, floor}
-use Rattle.queue.specs.Queue.{Start, clock, last, lastStamp, settled, waiting, phase, order}
-use Rattle.queue.specs.{Replies.{Call, take-call, return-call, receive-call, value-call, missing-call, Reply, told, worth, lacking, after, replies}, Calls.{onQueue}}
-use Rattle.queue.specs.Feeder.{buffer}
-use Rattle.feeder.specs.{Image.{listFrom}, OnRecord.{onRecord, startedPost}}
+use Rattle.queue.specs.{Queue.{clock, last, lastStamp, settled, waiting, phase, order}, Calls.{onQueue}, Feeder.{buffer}}
+use Rattle.beside.specs.{Image.{listFrom}, OnRecord.{onRecord, startedPost}}
 
 -- what a post has at the end; last is by post from 0, floor is a stamp as one number
 pub record Closing : Type 0 where
@@ -29,43 +29,46 @@ pub record Night : Type 0 where
 
 -- post p of n, with k places
 abbrev post-of : ℕ → ℕ → ℕ → Start
-post-of p n k = record { posts = n; own = p; feeder = 7; places = k }
+post-of p n k = starting n p 7 k
 
 -- messages by their stamp (counter, post)
 abbrev take : ℕ → ℕ → Message
-take c p = msg 1 p c
+take c p = msg takeKind p c
 
 abbrev return : ℕ → ℕ → Message
-return c p = msg 2 p c
+return c p = msg returnKind p c
 
 abbrev ack : ℕ → ℕ → Message
-ack c p = msg 3 p c
+ack c p = msg ackKind p c
 
 -- calls
 abbrev takes : Call
-takes = take-call buffer
+takes = own-call taking buffer
 
 abbrev returns : Call
-returns = return-call buffer
+returns = own-call returning buffer
 
 abbrev receives : Message → Call
 receives m = receive-call (frame 7 m) buffer
 
--- replies: done, with this message written or nothing; then the same with the grant; refused
+-- replies: done, with these bytes or this message written or nothing; then the same with the grant; refused
+abbrev tells : Bool → Bool → List ℕ → Reply
+tells wrote granted lent = told (record { number = 0; wrote = wrote; granted = granted; lent = lent })
+
 abbrev writes : Message → Reply
-writes m = told 0 true false (frame 7 m)
+writes m = tells true false (frame 7 m)
 
 abbrev done : Reply
-done = told 0 false false buffer
+done = tells false false buffer
 
 abbrev writes-granted : Message → Reply
-writes-granted m = told 0 true true (frame 7 m)
+writes-granted m = tells true true (frame 7 m)
 
 abbrev granted : Reply
-granted = told 0 false true buffer
+granted = tells false true buffer
 
 abbrev refused : ℕ → Reply
-refused n = told n false false buffer
+refused n = refusing buffer n
 
 -- the floor where there is no other post
 abbrev above-all : ℕ
@@ -85,7 +88,7 @@ abbrev P1-bytes : List ℕ
 P1-bytes = 0x46 ∷ 0x50 ∷ 0x4D ∷ 0x00 ∷ 0x01 ∷ 0x07 ∷ 0x01 ∷ 0x00 ∷ 0x00 ∷ 0x00 ∷ 0x00 ∷ 0x01 ∷ []
 
 abbrev P1-written : Night
-P1-written = night (post-of 0 2 1) (takes ∷ []) (told 0 true false P1-bytes ∷ []) (closing 1 (1 ∷ 0 ∷ []) (stampOf 0 1) (take 1 0 ∷ []) 0 0 1 0)
+P1-written = night (post-of 0 2 1) (takes ∷ []) (tells true false P1-bytes ∷ []) (closing 1 (1 ∷ 0 ∷ []) (stampOf 0 1) (take 1 0 ∷ []) 0 0 1 0)
 
 abbrev P1-read : Night
 P1-read = night (post-of 1 2 1) (receive-call P1-bytes buffer ∷ []) (writes (ack 2 1) ∷ []) (closing 2 (1 ∷ 2 ∷ []) (stampOf 1 0) [] 1 0 0 0)

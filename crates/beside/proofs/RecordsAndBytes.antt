@@ -15,10 +15,10 @@ use Rattle.queue.specs.Demand3.{Demand3}
 use Rattle.queue.proofs.Runs.{ran-fresh}
 use Rattle.queue.proofs.Demand3.{strong, runs}
 use Rattle.post.specs.declared.Post.{Post}
-use Rattle.post.proofs.Ranges.{Range, range-is}
-use Rattle.feeder.specs.Image.{image}
-use Rattle.feeder.specs.Records.{Boards, begun, runBoards, LineFits, RecordsAndBytes}
-use Rattle.feeder.proofs.Boards.{Mirrors, mirrors-begun, matches-run}
+use Rattle.calls.proofs.Ranges.{Range, range-is}
+use Rattle.beside.specs.Image.{image}
+use Rattle.beside.specs.Records.{Boards, begun, runBoards, LineFits, RecordsAndBytes}
+use Rattle.beside.proofs.Boards.{Mirrors, mirrors-begun, matches-run}
 
 module _ (L : Line) (fits : LineFits L) (acts : List Act) where
   abbrev boards : Boards
@@ -27,8 +27,8 @@ module _ (L : Line) (fits : LineFits L) (acts : List Act) where
   abbrev queues : Feeder
   queues = run L fresh acts
 
-  range : (p : ℕ) → p < L .posts → Range (L .posts) p (L .feeder) (L .places)
-  range p l = range-is (L .posts) p (L .feeder) (L .places) (fits p l)
+  range : (p : ℕ) → p < L .posts → Range (start L p)
+  range p l = range-is (start L p) (fits p l)
 
   mirrors : (p : ℕ) → p < L .posts → Mirrors L p (boards p) (queues p)
   mirrors p l =

@@ -1,10 +1,10 @@
 -- Demand 3 over records and bytes: posts that keep short records, and frames that travel as they were written.
 use Rattle.laws.specs.{Words.{Bool, false, not, cond, _&&_, List, [], _∷_, _++_, map, _≡_, ℕ, _+_, _≤_, _<_, T, ltb, eqb, length, take, drop}, Below.{sumTo, countTo}}
-use Rattle.frame.specs.Frame.{frame}
-use Rattle.post.specs.{declared.Post.{Post}, Sound.{inRange}}
-use Rattle.queue.specs.{Queue.{grants}, Replies.{Call, take-call, return-call, receive-call, Reply, told, worth, lacking}}
-use Rattle.queue.specs.{Feeder.{Line, start, Act, takeAt, returnAt, deliver, buffer, fresh, sent, run, returnsSent}, Demand3.{marked, Demand3}}
-use Rattle.feeder.specs.{Image.{image}, OnRecord.{onRecord, startedPost}}
+use Rattle.frame.specs.Frame.{size, frame}
+use Rattle.calls.specs.{Start.{inRange}, Replies.{Call, own-call, receive-call, Reply, told, worth, lacking}}
+use Rattle.post.specs.declared.Post.{Post}
+use Rattle.queue.specs.{Queue.{grants}, Feeder.{Line, start, Act, own-at, deliver, buffer, fresh, sent, run, returnsSent}, Demand3.{marked, Demand3}}
+use Rattle.beside.specs.{Image.{image}, OnRecord.{onRecord, startedPost}}
 
 -- a post: its record, the frames it wrote, how many of each other's it has accepted, and how many grant marks its calls gave
 pub record Board : Type 0 where
@@ -19,14 +19,14 @@ Boards = ℕ → Board
 abbrev pub begun : Line → Boards
 begun L p = record { post = startedPost (start L p); wrote = []; accepted = λ r. 0; marks = 0 }
 
--- the 12 bytes of a reply that says that a frame was written
+-- the first bytes of a reply that says that a frame was written
 abbrev pub written : Reply → List (List ℕ)
-written (told number wrote granted lent) = cond wrote (take 12 lent ∷ []) []
+written (told t) = cond (t .wrote) (take size (t .lent) ∷ []) []
 written (worth number value) = []
 written (lacking number set count) = []
 
 abbrev pub done : Reply → Bool
-done (told number wrote granted lent) = eqb number 0
+done (told t) = eqb (t .number) 0
 done (worth number value) = eqb number 0
 done (lacking number set count) = eqb number 0
 
@@ -48,10 +48,9 @@ abbrev pub offers : Boards → ℕ → ℕ → List (List ℕ) → Boards
 offers s p q [] = s
 offers s p q (f ∷ fs) = with-board s q (called (s q) (receive-call f buffer) (λ r. eqb r p))
 
--- a take at p, a return at p, the next frame of p that q has not accepted offered to q
+-- an own call at p; the next frame of p that q has not accepted offered to q
 unfoldable pub acted : Line → Boards → Act → Boards
-acted L s (takeAt p) = cond (ltb p (L .posts)) (with-board s p (called (s p) (take-call buffer) (λ r. false))) s
-acted L s (returnAt p) = cond (ltb p (L .posts)) (with-board s p (called (s p) (return-call buffer) (λ r. false))) s
+acted L s (own-at o p) = cond (ltb p (L .posts)) (with-board s p (called (s p) (own-call o buffer) (λ r. false))) s
 acted L s (deliver p q) = cond (ltb p (L .posts) && (ltb q (L .posts) && not (eqb p q))) (offers s p q (drop (s q .accepted p) (s p .wrote))) s
 
 unfoldable pub runBoards : Line → Boards → List Act → Boards
@@ -60,7 +59,7 @@ runBoards L s (a ∷ acts) = runBoards L (acted L s a) acts
 
 -- N, K and the feeder are in range, for each post alike
 abbrev pub LineFits : Line → Type 0
-LineFits L = (p : ℕ) → p < L .posts → T (inRange (L .posts) p (L .feeder) (L .places))
+LineFits L = (p : ℕ) → p < L .posts → T (inRange (start L p))
 
 -- the boards of a run beside the full queues of the same run
 pub record Beside (L : Line) (acts : List Act) : Type 0 where

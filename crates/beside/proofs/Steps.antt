@@ -13,9 +13,13 @@ use Rattle.laws.specs.Lists.{In, put}
 use Rattle.laws.proofs.Tests.{test, cond-both, and-l}
 use Rattle.laws.proofs.RisingLaws.{in-put, put-in}
 use Rattle.frame.specs.declared.Message.{Message}
-use Rattle.frame.specs.Message.{msg, isTake, counted, known, lastCounter, stamp, by}
-use Rattle.queue.specs.Queue.{Start, Queue, clock, last, heard, waiting, latest, phase, order}
-use Rattle.queue.specs.Calls.{saying, say, acks, accept}
+use Rattle.frame.specs.Message.{msg, takeKind, returnKind, ackKind, isTake, counted, lastCounter, stamp, by}
+use Rattle.calls.specs.declared.Start.{Start}
+use Rattle.queue.specs.Queue.{Queue, clock, last, heard, waiting, latest, phase, order}
+use Rattle.calls.specs.Own.{Own, taking, returning, rowOf}
+use Rattle.calls.specs.View.{View, acks}
+use Rattle.calls.proofs.Passing.{own-known, own-counted}
+use Rattle.queue.specs.Calls.{view, saying, say, accept}
 use Rattle.queue.proofs.Good.{Fit, Sorted, New, sorted-say}
 use Rattle.queue.proofs.Granted.{take-cast, latest-in, idle-latest, latest-said, latest-accepted}
 use Rattle.queue.proofs.Phases.{phase-idle, order-idle, phase-asked, phase-numbered, order-numbered}
@@ -25,16 +29,13 @@ use Rattle.queue.proofs.Settling.{between-say, arrived, between-accept}
 use Rattle.queue.proofs.Fitting.{Fitting}
 use Rattle.post.specs.Record.{remade}
 use Rattle.post.specs.Settle.{settle}
-use Rattle.post.specs.Calls.{spoken, came, noted}
-use Rattle.post.proofs.OwnTakes.{Only}
-use Rattle.feeder.specs.Image.{listFrom, image}
-use Rattle.feeder.proofs.Listed.{set-listFrom}
-use Rattle.feeder.proofs.ImageParts.{image-waiting}
-use Rattle.feeder.proofs.Counted.{unsettled, Stand, idle, asked, numbered, settles-to-image}
-
--- the last counters of a queue by number
-abbrev lasts : Queue → List ℕ
-lasts q = listFrom 0 16 (λ r. last r q)
+use Rattle.post.specs.declared.Post.{Post}
+use Rattle.post.specs.Calls.{spoken, waitingWith, came}
+use Rattle.post.proofs.Own.Takes.{Only}
+use Rattle.beside.specs.Image.{lasts, image}
+use Rattle.beside.proofs.Listed.{set-listFrom}
+use Rattle.beside.proofs.ImageParts.{image-waiting, image-view}
+use Rattle.beside.proofs.Counted.{unsettled, Stand, idle, asked, numbered, settles-to-image}
 
 pub saying-is : (st : Start) (kind : ℕ) (q : Queue) → msg kind (st .own) (clock q + 1) ≡ saying st kind q
 unfolding saying
@@ -52,9 +53,12 @@ module _ (st : Start) (q : Queue) (fit : Fit st) (kind : ℕ) where
       (last-said st kind q ∙ sym (add-one (clock q)))
       (λ r l d. last-said-other st kind q r d)
 
-  spoken-is : (ph : ℕ) → spoken (image st q) kind ph ≡ unsettled st q (say st kind q) (put stamp (saying st kind q) (waiting st q)) ph 0
-  unfolding spoken image
-  spoken-is ph = λ i. remade (image st q) (clock-said i) (lasts-said i) (put stamp (saying-is st kind q i) (image-waiting st q i)) ph 0
+spoken-is : (st : Start) (q : Queue) → Fit st → (o : Own)
+    → let kind = rowOf o .kind in spoken o (image st q) ≡ unsettled st q (say st kind q) (put stamp (saying st kind q) (waiting st q)) (rowOf o .to) 0
+unfolding spoken image
+spoken-is st q fit o =
+    let kind = rowOf o .kind in
+    λ i. remade (image st q) (clock-said st q fit kind i) (lasts-said st q fit kind i) (put stamp (saying-is st kind q i) (image-waiting st q i)) (rowOf o .to) 0
 
 module _ (st : Start) (q : Queue) (k : Fitting st q) where
   abbrev g : Sorted st q
@@ -64,18 +68,19 @@ module _ (st : Start) (q : Queue) (k : Fitting st q) where
   abbrev with-said : ℕ → List Message
   with-said kind = put stamp (saying st kind q) (waiting st q)
 
-  said-step : (kind ph : ℕ) → T (known kind) → T (counted (msg kind 0 0)) → clock q < lastCounter
-      → Stand st q (say st kind q) (with-said kind) ph 0 → settle (spoken (image st q) kind ph) ≡ image st (say st kind q)
-  said-step kind ph n c l s =
-      ap settle (spoken-is st q (g .fit) kind ph)
-      ∙ settles-to-image st q (say st kind q) (with-said kind) (between-say st q g kind n c) (sorted-say st q g kind n)
-      (let e = clock-say st kind q in omega arith) ph 0 s
+  said-step : (o : Own) → clock q < lastCounter
+      → let kind = rowOf o .kind in Stand st q (say st kind q) (with-said kind) (rowOf o .to) 0 → settle (spoken o (image st q)) ≡ image st (say st kind q)
+  said-step o l s =
+      let kind = rowOf o .kind in
+      ap settle (spoken-is st q (g .fit) o)
+      ∙ settles-to-image st q (say st kind q) (with-said kind) (between-say st q g kind (own-known o) (own-counted o 0 0)) (sorted-say st q g kind (own-known o))
+      (let e = clock-say st kind q in omega arith) (rowOf o .to) 0 s
 
   -- the take that is said is the only own one that waits
-  only-said : T (eqb (phase st q) 0) → Only (st .own) (saying st 1 q) (with-said 1)
+  only-said : T (eqb (phase st q) 0) → Only (st .own) (saying st takeKind q) (with-said takeKind)
   unfolding saying
   only-said z =
-      let t = saying st 1 q in
+      let t = saying st takeKind q in
       record {
         here = put-in stamp t t (waiting st q) (inl refl);
         own-take = yes-and (eqb (st .own) (st .own)) _ (eqb-refl (st .own)) tt;
@@ -86,15 +91,13 @@ module _ (st : Start) (q : Queue) (k : Fitting st q) where
             (in-put stamp t a (waiting st q) i);
       }
 
-  pub take-step : T (eqb (phase st q) 0) → clock q < lastCounter → settle (spoken (image st q) 1 1) ≡ image st (say st 1 q)
-  take-step z l =
-      let e = sym (latest-said st q g 1 tt) in
-      said-step 1 1 tt tt l (asked refl (take-cast e (unfold saying in tt)) (subst (λ (x : Message). Only (st .own) x (with-said 1)) e (only-said z)))
-
-  pub return-step : clock q < lastCounter → settle (spoken (image st q) 2 0) ≡ image st (say st 2 q)
-  return-step l =
-      let e = sym (latest-said st q g 2 tt) in
-      said-step 2 0 tt tt l (idle refl refl (subst (λ (x : Message). T (not (isTake x))) e (unfold saying in tt)))
+  pub own-step : (o : Own) → T (eqb (phase st q) (rowOf o .from)) → clock q < lastCounter → settle (spoken o (image st q)) ≡ image st (say st (rowOf o .kind) q)
+  own-step taking z l =
+      let e = sym (latest-said st q g takeKind tt) in
+      said-step taking l (asked refl (take-cast e (unfold saying in tt)) (subst (λ (x : Message). Only (st .own) x (with-said takeKind)) e (only-said z)))
+  own-step returning z l =
+      let e = sym (latest-said st q g returnKind tt) in
+      said-step returning l (idle refl refl (subst (λ (x : Message). T (not (isTake x))) e (unfold saying in tt)))
 
 -- ---- a message received
 
@@ -107,29 +110,35 @@ module _ (st : Start) (q : Queue) (m : Message) (w : New st q m) (fit : Fit st) 
       (last-new st q m w)
       (λ r l d. last-put-other m q r d)
 
-  noted-is : noted (image st q) m ≡ unsettled st q (put stamp m q) (waiting st q) (phase st q) (order st q)
-  unfolding noted image
-  noted-is = λ i. remade (image st q) (sym (clock-put m q) i) (lasts-put i) (image-waiting st q i) (phase st q) (order st q)
+  abbrev larger : ℕ
+  larger = max (clock q) (m .counter)
 
-  came-is : came (image st q) m ≡ unsettled st q (say st 3 (put stamp m q)) (put stamp m (waiting st q)) (phase st q) (order st q)
-  unfolding came image
-  came-is =
-      let p = put stamp m q in
-      let c = ap (λ (x : ℕ). x + 1) (sym (clock-put m q)) in
-      λ i. remade (image st q) ((c ∙ clock-said st p fit 3) i) (lasts-came i) (put stamp m (image-waiting st q i)) (phase st q) (order st q)
-    where
-      lasts-came : set (set (lasts q) (m .sender) (m .counter)) (st .own) (max (clock q) (m .counter) + 1) ≡ lasts (say st 3 (put stamp m q))
-      lasts-came = ap₂ (λ (l : List ℕ) (x : ℕ). set l (st .own) (x + 1)) lasts-put (sym (clock-put m q)) ∙ lasts-said st (put stamp m q) fit 3
+  abbrev p : Queue
+  p = put stamp m q
 
-  heard-is : cond (counted m) (came (image st q) m) (noted (image st q) m) ≡ unsettled st q (accept st q m) (arrived st q m) (phase st q) (order st q)
-  unfolding accept acks
-  heard-is = go (counted m)
+  -- acknowledged or not
+  clock-came : (b : Bool) → cond b (larger + 1) larger ≡ clock (cond b (say st ackKind p) p)
+  clock-came true = ap (λ (x : ℕ). x + 1) (sym (clock-put m q)) ∙ clock-said st p fit ackKind
+  clock-came false = sym (clock-put m q)
+
+  lasts-came : (b : Bool) → let heard = set (lasts q) (m .sender) (m .counter) in cond b (set heard (st .own) (cond b (larger + 1) larger)) heard ≡ lasts (cond b (say st ackKind p) p)
+  lasts-came true = ap₂ (λ (l : List ℕ) (x : ℕ). set l (st .own) (x + 1)) lasts-put (sym (clock-put m q)) ∙ lasts-said st p fit ackKind
+  lasts-came false = lasts-put
+
+  came-is : Sorted st q → came (image st q) m ≡ unsettled st q (accept st q m) (arrived st q m) (phase st q) (order st q)
+  unfolding came accept image
+  came-is g =
+      ap made (ap (λ (v : View). acks v m) (image-view st q g)) ∙ go (acks (view st q) m)
     where
-      go : (b : Bool) → cond b (came (image st q) m) (noted (image st q) m)
-          ≡ unsettled st q (cond b (say st 3 (put stamp m q)) (put stamp m q)) (cond b (put stamp m (waiting st q)) (waiting st q))
-          (phase st q) (order st q)
-      go true = came-is
-      go false = noted-is
+      made : Bool → Post
+      made b =
+          let heard = set (lasts q) (m .sender) (m .counter) in
+          let c = cond b (larger + 1) larger in
+          remade (image st q) c (cond b (set heard (st .own) c) heard) (waitingWith (image st q) m) (phase st q) (order st q)
+
+      go : (b : Bool) → made b ≡ unsettled st q (cond b (say st ackKind p) p) (arrived st q m) (phase st q) (order st q)
+      go b = λ i.
+          remade (image st q) (clock-came b i) (lasts-came b i) (cond (counted m) (put stamp m (image-waiting st q i)) (image-waiting st q i)) (phase st q) (order st q)
 
 -- the own take stands as it stood
 module _ (st : Start) (q : Queue) (m : Message) (k : Fitting st q) (w : New st q m) where
@@ -168,8 +177,7 @@ module _ (st : Start) (q : Queue) (m : Message) (k : Fitting st q) (w : New st q
       }))))
       (λ n. idle (phase-idle st q n) (order-idle st q n) (rw e n))
 
-  pub receive-step : Sorted st (accept st q m) → clock (accept st q m) ≤ lastCounter
-      → settle (cond (counted m) (came (image st q) m) (noted (image st q) m)) ≡ image st (accept st q m)
+  pub receive-step : Sorted st (accept st q m) → clock (accept st q m) ≤ lastCounter → settle (came (image st q) m) ≡ image st (accept st q m)
   receive-step s c =
-      ap settle (heard-is st q m w (sorted .fit))
+      ap settle (came-is st q m w (sorted .fit) sorted)
       ∙ settles-to-image st q (accept st q m) (arrived st q m) (between-accept st q sorted m w) s c (phase st q) (order st q) stands

@@ -1,0 +1,6 @@
+-- The short record beside the full queue.
+pub mod Image  -- the record that a queue comes to
+pub mod OnRecord  -- the calls over the record, told in the terms of both
+pub mod Demand2  -- the record answers as the queue does
+pub mod Records  -- demand 3 over records and bytes
+pub mod Nights  -- document 01's nights P1 to P10
