@@ -15,8 +15,8 @@ use Rattle.frame.specs.declared.Message.{Message}
 use Rattle.frame.specs.Message.{blank}
 use Rattle.post.specs.declared.Post.{Post}
 use Rattle.bench.specs.declared.Night.{Night}
-use Rattle.bench.specs.declared.calls.Called.{Called}
-use Rattle.bench.specs.declared.calls.Change.{Change}
+use Rattle.bench.specs.declared.commands.Called.{Called}
+use Rattle.bench.specs.declared.commands.Change.{Change}
 use Rattle.bench.specs.declared.lines.Command.{Command}
 use Rattle.bench.specs.declared.lines.Command.the-variants.{Deliver}
 use Rattle.bench.specs.Night.{receives, opened, postOf, handedBack, seek, nextOf, passed, Ran, refused, answered, offered, ran}

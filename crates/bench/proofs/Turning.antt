@@ -16,7 +16,7 @@ use Rattle.bench.specs.declared.Bench.{Bench}
 use Rattle.bench.specs.declared.Turned.{Turned}
 use Rattle.bench.specs.declared.lines.Header.{Header}
 use Rattle.bench.specs.declared.lines.Command.{Command}
-use Rattle.bench.specs.declared.calls.Change.{Change}
+use Rattle.bench.specs.declared.commands.Change.{Change}
 use Rattle.bench.specs.Text.{answerLine, badHeader}
 use Rattle.bench.specs.Lines.{empty, kept, headerOf, commandOf}
 use Rattle.bench.specs.Night.{opened, begun, Ran, ran}

@@ -2,7 +2,7 @@
 use Rattle.laws.specs.Words.{Bool, cond, _&&_, List, _≡_, ℕ, _+_, _-_, _*_, _<_, leb, ltb, eqb, getD, set}
 use Rattle.frame.specs.declared.Message.{Message}
 use Rattle.post.specs.declared.Post.{Post}
-use Rattle.bench.specs.{declared.Night.{Night}, declared.calls.Change.{Change}, declared.lines.Header.{Header}, declared.lines.Command.{Command}}
+use Rattle.bench.specs.{declared.Night.{Night}, declared.commands.Change.{Change}, declared.lines.Header.{Header}, declared.lines.Command.{Command}}
 use Rattle.bench.specs.{declared.lines.Command.the-variants.{Take, Return, Deliver, Unknown}, Lines.{heading}, Night.{opened, Ran}}
 
 -- the digit of a byte; 10 where it is none

@@ -1,25 +1,24 @@
 -- A night: the records, the messages sent, and how far each post has read of each other's. What a command does to it.
 use Rattle.laws.specs.{Words.{Bool, false, cond, _&&_, List, [], _∷_, map, ℕ, _+_, _*_, leb, ltb, eqb, getD, take, drop, replicate, set}, Search.{from}}
-use Rattle.frame.specs.{declared.Message.{Message}, Message.{blank, by}, Frame.{fieldsOf, bytesAfter}}
-use Rattle.post.specs.{declared.Post.{Post}, Calls.{Outcome, started, took, gaveBack, received}}
-use Rattle.bench.specs.{declared.Night.{Night}, declared.calls.Called.{Called}, declared.lines.Command.{Command}}
+use Rattle.frame.specs.{declared.Message.{Message}, Message.{blank, by}, Frame.{size, fieldsOf, bytesAfter}}
+use Rattle.calls.specs.{Start.{starting}, Own.{Own, taking, returning}}
+use Rattle.post.specs.{declared.Post.{Post}, Calls.{Outcome, started, spoke, received}}
+use Rattle.bench.specs.{declared.Night.{Night}, declared.commands.Called.{Called}, declared.lines.Command.{Command}}
 use Rattle.bench.specs.declared.lines.Command.the-variants.{Take, Return, Deliver, Unknown}
 
 -- ---- calls on one post
 
--- 12 zero bytes are lent
+-- zero bytes are lent, as many as a frame has
 abbrev pub lent : List ℕ
-lent = replicate 12 0
+lent = replicate size 0
 
 -- a call's answer, and the message in the lent bytes after it
 abbrev pub called : Outcome → Called
 called o = record { answer = o .gives; message = fieldsOf (o .leaves) .message }
 
-unfoldable pub takes : Post → Called
-takes p = called (took p lent)
-
-unfoldable pub givesBack : Post → Called
-givesBack p = called (gaveBack p lent)
+-- a take or a return
+unfoldable pub speaks : Own → Post → Called
+speaks o p = called (spoke o p lent)
 
 -- the frame of m arrives
 unfoldable pub receives : Post → Message → Called
@@ -29,7 +28,7 @@ receives p m = called (received p (bytesAfter lent 0 m) lent)
 
 -- post p of N on feeder 0 with K places; from N on, what a refused start gives
 unfoldable pub opened : ℕ → ℕ → ℕ → Post
-opened n k p = started n p 0 k .post
+opened n k p = started (starting n p 0 k) .post
 
 unfoldable pub begun : ℕ → ℕ → Night
 begun n k = record { posts = map (opened n k) (from 0 16); sent = replicate 256 blank; count = 0; read = replicate 256 0 }
@@ -82,7 +81,7 @@ offered s p q i =
     answered (cond (eqb (c .answer .number) 0) (passed (handedBack s q c) p q i) (handedBack s q c)) c
 
 unfoldable pub ran : Night → Command → Ran
-ran s (Take p) = let c = takes (postOf s p) in answered (handedBack s p c) c
-ran s (Return p) = let c = givesBack (postOf s p) in answered (handedBack s p c) c
+ran s (Take p) = let c = speaks taking (postOf s p) in answered (handedBack s p c) c
+ran s (Return p) = let c = speaks returning (postOf s p) in answered (handedBack s p c) c
 ran s (Deliver p q) = cond (leb 256 (nextOf s p q)) (refused s 15) (offered s p q (nextOf s p q))
 ran s Unknown = refused s 16

@@ -1,5 +1,5 @@
 // The bench as a library: bytes of a night in, bytes of its answers out.
-mod calls;
+mod commands;
 mod lines;
 mod writing;
 
@@ -93,8 +93,8 @@ fn last_line(night: Night, places: u8, out: &mut [u8], at: usize) -> usize
     ensures { λ r. ⌜ Lays (now (out .entry)) (now (out .exit)) at (closing places night) r ⌝ }
 {
     let posts = night.posts;
-    let held = in_phases(posts, 3, 3);
-    let waiting = in_phases(posts, 1, 2);
+    let held = in_phases(posts, Post::HOLDING, Post::HOLDING);
+    let waiting = in_phases(posts, Post::ASKED, Post::NUMBERED);
     writing::last(out, at, places, held, waiting)
 }
 
@@ -151,7 +151,7 @@ impl Bench {
         ensures { λ r. ⌜ r ≡ unfed ⌝ }
     {
         Self {
-            night: calls::begin(0, 0),
+            night: commands::begin(0, 0),
             posts: 0,
             places: 0,
             number: 0,
@@ -175,7 +175,7 @@ impl Bench {
             };
         }
         let bench = Self {
-            night: calls::begin(h.posts, h.places),
+            night: commands::begin(h.posts, h.places),
             posts: h.posts,
             places: h.places,
             number: 0,
@@ -236,12 +236,12 @@ impl Bench {
                 bench.line = next;
             } else if is_asked(bench.mode, bench.number) {
                 let c = lines::read_command(line, bench.posts);
-                let at = calls::callee(c);
-                let pair = calls::pair(c);
+                let at = commands::callee(c);
+                let pair = commands::pair(c);
                 let post = night.posts[at];
                 let sent = night.sent;
                 let read = night.read[pair];
-                let r = calls::run(c, post, sent, night.count, read);
+                let r = commands::run(c, post, sent, night.count, read);
                 let next = r.post;
                 let to = r.to;
                 let message = r.message;

@@ -1,4 +1,4 @@
--- `bench::in_phases` meets its contract: those counted and those to come are all. Assumes nothing.
+-- Those counted and those to come are all. Assumes nothing.
 use borrow.Author.Needs.{needs}
 use Prim.Native.Nat.{ℕ, _+_, _≤_, _-_}
 use mathlib.Core.Path.{_≡_, ap}
@@ -10,7 +10,7 @@ use Rattle.laws.specs.Lists.{keep, many}
 use Rattle.laws.proofs.ListLaws.{many-cons}
 use Rattle.laws.proofs.ScanLaws.{next-drop, many-length}
 use Rattle.post.specs.declared.Post.{Post}
-use Rattle.post.proofs.Remaking.{length-mapped}
+use Rattle.laws.proofs.ListLaws.{length-mapped}
 use Rattle.bench.specs.Bench.{inPhases}
 use Rattle.bench.proofs.Nights.{absent}
 use Rattle.bench.proofs.in_phases.Statement.{statement}

@@ -1,4 +1,3 @@
--- `bench::is_asked` meets its contract. Assumes nothing.
 use Rattle.laws.proofs.Ladders.{tests, not-on, not-off}
 use borrow.Author.Needs.{needs}
 use Rattle.bench.proofs.is_asked.Statement.{statement}

@@ -1,4 +1,3 @@
--- `bench::is_pending` meets its contract. Assumes nothing.
 use borrow.Author.Needs.{needs}
 use Rattle.laws.proofs.Ladders.{tests}
 use Rattle.bench.proofs.is_pending.Statement.{statement}

@@ -1,4 +1,3 @@
--- `bench::is_plain` meets its contract. Assumes nothing.
 use mathlib.Core.Path.{refl}
 use borrow.Author.Tests.{eq-eqb, ne-eqb}
 use Rattle.laws.proofs.Ladders.{and-first, and-fails, or-passes, or-after, not-on, not-off}

@@ -1,4 +1,4 @@
--- `nights_main::holds` meets its contract. Assumes nothing.
+-- Every byte of the output is compared with what is stored, in order. Assumes nothing.
 use borrow.Author.Needs.{needs}
 use borrow.Author.Tests.{not-false}
 use mathlib.Core.Path.{sym, _∙_}

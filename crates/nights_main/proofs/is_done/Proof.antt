@@ -1,4 +1,3 @@
--- `nights_main::is_done` meets its contract. Assumes nothing.
 use mathlib.Core.Path.{refl}
 use Rattle.laws.proofs.Ladders.{or-passes, or-after}
 use Rattle.nights_main.proofs.is_done.Statement.{statement}

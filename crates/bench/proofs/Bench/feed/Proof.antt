@@ -1,4 +1,4 @@
--- `bench::Bench::feed` meets its contract: what is left gives the same as all. Assumes nothing.
+-- What is left gives the same as all. Assumes nothing.
 use borrow.Author.Needs.{needs}
 use Prim.Native.Nat.{ℕ, _-_, _≤_}
 use mathlib.Core.Path.{_≡_, refl, ap, _∙_, sym, subst}
@@ -8,7 +8,7 @@ use native.Mathlib.Omega.{arith}
 use lib.ListN.{length, drop, length-set}
 use Rattle.bench.specs.Bench.{feeding, plain, turned, Turns}
 use Rattle.laws.proofs.StoreLaws.{within}
-use Rattle.post.proofs.Remaking.{length-mapped}
+use Rattle.laws.proofs.ListLaws.{length-mapped}
 use Rattle.bench.specs.Lines.{empty}
 use Rattle.bench.specs.Night.{opened}
 use Rattle.bench.specs.Inside.{Safe}

@@ -1,4 +1,4 @@
--- `bench::Bench::finish` meets its contract. Assumes nothing.
+-- The part of a line that is left is a line, and then the last line is written. Assumes nothing.
 use borrow.Author.Needs.{needs}
 use denote.Ref.{now}
 use Rattle.bench.proofs.Feeding.{no-room, was-over, ends-over, ends-on}

@@ -1,4 +1,4 @@
--- `bench::Bench::head` meets its contract: by what the line says. Assumes nothing.
+-- By what the line says. Assumes nothing.
 use borrow.Author.Needs.{needs}
 use mathlib.Core.Path.{refl}
 use native.Mathlib.Omega.{arith}

@@ -1,4 +1,4 @@
--- `bench::Bench::last_piece` meets its contract. Assumes nothing.
+-- A line that has begun is turned, in the mode that the bench is in. Assumes nothing.
 use borrow.Author.Needs.{needs}
 use mathlib.Core.Path.{refl, _∙_, sym}
 use native.Mathlib.Omega.{arith}

@@ -1,4 +1,3 @@
--- `bench::Bench::new` meets its contract. Assumes nothing.
 use borrow.Author.Needs.{needs}
 use Rattle.bench.specs.Bench.{unfed}
 use Rattle.bench.proofs.Bench.new.Statement.{statement}

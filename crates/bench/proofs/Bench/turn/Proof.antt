@@ -1,4 +1,4 @@
--- `bench::Bench::turn` meets its contract, by mode. Assumes nothing.
+-- By mode. Assumes nothing.
 use borrow.Author.Needs.{needs}
 use Rattle.bench.proofs.Turning.{turns-as, turned-header, turned-last}
 use Rattle.bench.proofs.Bench.turn.Statement.{statement}

@@ -1,4 +1,4 @@
--- `bench::lines::after_at` meets its contract. Assumes nothing.
+-- A second digit moves the next number one place on. Assumes nothing.
 use borrow.Author.Needs.{needs}
 use mathlib.Core.Path.{ap, _∙_}
 use native.Mathlib.Omega.{arith}

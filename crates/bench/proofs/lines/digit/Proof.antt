@@ -1,4 +1,3 @@
--- `bench::lines::digit` meets its contract. Assumes nothing.
 use borrow.Author.Needs.{needs}
 use native.Mathlib.Omega.{arith}
 use Rattle.laws.proofs.Ladders.{picks}

@@ -1,4 +1,3 @@
--- `bench::lines::empty` meets its contract. Assumes nothing.
 use borrow.Author.Needs.{needs}
 use Rattle.laws.proofs.Ladders.{picks}
 use Rattle.bench.specs.Lines.{empty}

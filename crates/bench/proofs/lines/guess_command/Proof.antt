@@ -1,4 +1,4 @@
--- `bench::lines::guess_command` meets its contract. Assumes nothing.
+-- The first byte tells which command it can be, and its digits which posts. Assumes nothing.
 use borrow.Author.Needs.{needs}
 use Prim.Native.Nat.{ℕ}
 use mathlib.Core.Path.{_≡_, ap, ap₂, _∙_, sym}

@@ -1,4 +1,3 @@
--- `bench::lines::guess_header` meets its contract. Assumes nothing.
 use borrow.Author.Needs.{needs}
 use mathlib.Core.Path.{ap, _∙_}
 use Rattle.bench.specs.Lines.{kept}

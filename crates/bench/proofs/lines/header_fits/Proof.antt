@@ -1,4 +1,3 @@
--- `bench::lines::header_fits` meets its contract. Assumes nothing.
 use borrow.Author.Needs.{needs}
 use Rattle.laws.proofs.Ladders.{tests}
 use Rattle.bench.specs.Inside.{headerFits}

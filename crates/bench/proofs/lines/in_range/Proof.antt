@@ -1,4 +1,4 @@
--- `bench::lines::in_range` meets its contract, by cases. Assumes nothing.
+-- By cases. Assumes nothing.
 use borrow.Author.Needs.{needs}
 use mathlib.Core.Path.{ap, _∙_, sym}
 use mathlib.Core.Bool.{not}

@@ -1,4 +1,4 @@
--- `bench::lines::is_text` meets its contract. Assumes nothing.
+-- What was compared is the same, and both lists end there. Assumes nothing.
 use borrow.Author.Needs.{needs}
 use Prim.Native.Nat.{ℕ}
 use mathlib.Core.Path.{_≡_, ap, _∙_, sym}

@@ -1,4 +1,4 @@
--- `bench::lines::number_at` meets its contract. Assumes nothing.
+-- A second digit makes a number of two. Assumes nothing.
 use borrow.Author.Needs.{needs}
 use mathlib.Core.Path.{ap, _∙_}
 use Rattle.bench.specs.Inside.{digit}

@@ -1,4 +1,4 @@
--- `bench::lines::read_command` meets its contract: a line is its guess or no command. Assumes nothing.
+-- A line is its guess or no command. Assumes nothing.
 use borrow.Author.Needs.{needs}
 use mathlib.Core.Path.{_∙_, sym}
 use borrow.Author.Tests.{not-true, not-false}

@@ -1,4 +1,4 @@
--- `bench::lines::read_header` meets its contract: a line is its guess or no header. Assumes nothing.
+-- A line is its guess or no header. Assumes nothing.
 use borrow.Author.Needs.{needs}
 use mathlib.Core.Path.{_∙_, sym}
 use Rattle.bench.proofs.Guessing.{is-header, too-large, not-header}
