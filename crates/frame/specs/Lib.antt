@@ -1,2 +1,3 @@
-pub mod Message
-pub mod Frame
+-- A message and its frame.
+pub mod Message  -- kinds and stamps
+pub mod Frame  -- bytes, and what reading and writing give

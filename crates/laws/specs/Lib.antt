@@ -1,6 +1,7 @@
-pub mod Words
-pub mod Ladder
-pub mod Big
-pub mod Lists
-pub mod Below
-pub mod Search
+-- What definitions are written with.
+pub mod Words  -- the kit's words
+pub mod Ladder  -- tables of refusals
+pub mod Big  -- numbers as bytes
+pub mod Lists  -- lists
+pub mod Below  -- over the numbers below n
+pub mod Search  -- looking through lists

@@ -22,20 +22,8 @@ floor p = leastTo (p .posts) (p .own) (2 ^ 40) (λ q. stampOf (lastOf p q) q)
 
 -- a record by its fields
 abbrev pub made : Start → ℕ → List ℕ → ℕ → List Message → ℕ → ℕ → ℕ → ℕ → Post
-made st clock last waits slots takes returns phase order = record {
-  posts = st .posts;
-  own = st .own;
-  feeder = st .feeder;
-  places = st .places;
-  clock = clock;
-  last = last;
-  waits = waits;
-  slots = slots;
-  takes = takes;
-  returns = returns;
-  phase = phase;
-  order = order;
-}
+made st clock last waits slots takes returns phase order =
+    record { posts = st .posts; own = st .own; feeder = st .feeder; places = st .places; clock = clock; last = last; waits = waits; slots = slots; takes = takes; returns = returns; phase = phase; order = order }
 
 -- messages in 62 slots, the unused ones zero
 abbrev pub inSlots : List Message → List Message

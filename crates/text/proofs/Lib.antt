@@ -1,4 +1,5 @@
-pub mod Putting
-pub mod Digits
-pub mod Values
-pub mod Unique
+-- Why texts are put as promised.
+pub mod Digits  -- digits from the last to the first
+pub mod Putting  -- texts one after the other are one text
+mod Values  -- digits stand for their number
+pub mod Unique  -- two results that meet a promise are equal

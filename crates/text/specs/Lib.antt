@@ -1,2 +1,3 @@
-pub mod Decimal
-pub mod Puts
+-- Text in lent bytes.
+pub mod Decimal  -- numbers as decimal text
+pub mod Puts  -- a text put from a place on

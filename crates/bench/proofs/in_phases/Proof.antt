@@ -31,12 +31,6 @@ long c = search (length-mapped, needs)
 loop-holds : tie.Need-loop-holds Inv-loop μ-loop
 loop-holds c = (omega arith, omega arith)
 
-mul-p : tie.Need-mul-p Inv-loop μ-loop
-mul-p c = search needs
-
-array-copy-out-p : tie.Need-array-copy-out-p Inv-loop μ-loop
-array-copy-out-p c = search needs
-
 one-in-requires : tie.Need-one-in-requires Inv-loop μ-loop
 one-in-requires c κs =
     let a = c .before .before .before .args in
@@ -44,12 +38,6 @@ one-in-requires c κs =
     let m = many-length (within (a .lo) (a .hi)) (a .t1) in
     let v = c .before .before .loop .inv .1 in
     omega arith
-
-add-i : tie.Need-add-i Inv-loop μ-loop
-add-i c = search needs
-
-loop-less : tie.Need-loop-less Inv-loop μ-loop
-loop-less c = search needs
 
 loop-again : tie.Need-loop-again Inv-loop μ-loop
 loop-again c =
@@ -80,10 +68,10 @@ in-phases-spec =
     Inv-loop
     μ-loop
     loop-holds
-    mul-p
-    array-copy-out-p
+    (λ c. search needs)
+    (λ c. search needs)
     one-in-requires
-    add-i
-    loop-less
+    (λ c. search needs)
+    (λ c. search needs)
     loop-again
     returns)

@@ -8,18 +8,6 @@ use Rattle.bench.specs.Bench.{closing}
 use Rattle.bench.proofs.last_line.Statement.{statement}
 use Rattle.bench.proofs.last_line.Tie as tie
 
-in-phases-requires : tie.Need-in-phases-requires
-in-phases-requires c κs = search needs
-
-in-phases-requires-2 : tie.Need-in-phases-requires-2
-in-phases-requires-2 c κs = search needs
-
-last-requires : tie.Need-last-requires
-last-requires c κs = search needs
-
-same-length : tie.Need-same-length
-same-length c = search needs
-
 returns : tie.Need-returns
 unfolding closing
 returns c =
@@ -28,4 +16,4 @@ returns c =
 
 pub last-line-spec : {M : Type 1} → statement M
 last-line-spec =
-    tie.close (tie.spec in-phases-requires in-phases-requires-2 last-requires same-length returns)
+    tie.close (tie.spec (λ c κs. search needs) (λ c κs. search needs) (λ c κs. search needs) (λ c. search needs) returns)

@@ -10,11 +10,8 @@ returns c = simp (lt-leb _ _ (c .if1 .taken)) (omega arith)
 returns-2 : tie.Need-returns-2
 returns-2 c = simp (le-leb _ _ (c .before .if1 .left), lt-leb _ _ (c .if2 .taken)) (omega arith)
 
-add-result : tie.Need-add-result
-add-result c = search needs
-
 returns-3 : tie.Need-returns-3
 returns-3 c = simp (le-leb _ _ (c .before .if1 .left), le-leb _ _ (c .if2 .left)) (omega arith)
 
 pub one-in-spec : {M : Type 1} → statement M
-one-in-spec = tie.close (tie.spec returns returns-2 add-result returns-3)
+one-in-spec = tie.close (tie.spec returns returns-2 (λ c. search needs) returns-3)

@@ -46,9 +46,6 @@ module _ (width left : ℕ) (p : 0 < left) (l : left ≤ width) where
       → ofBe (take (width - left) (drop at s)) * 256 + getD s (at + (width - left)) 0 ≡ ofBe (take (width - (left - 1)) (drop at s))
   reads-on s at h = rw next (sym (of-next s at (width - left) (omega arith)))
 
-lies-requires : tie.Need-lies-requires Inv-loop μ-loop
-lies-requires c κs = search needs
-
 returns : tie.Need-returns Inv-loop μ-loop
 unfolding fieldAt
 returns c = off _ _ _ (sym (c .before .lies .ensures) ∙ not-true _ (c .if1 .taken)) refl
@@ -84,12 +81,6 @@ add-n-2 c =
     let l = c .before .before .loop in
     full _ _ (low (l .n) _ (l .inv .1 .0) (omega arith)) (c .shared-slice-known2 .given _ .fits)
 
-sub-left : tie.Need-sub-left Inv-loop μ-loop
-sub-left c = search needs
-
-loop-less : tie.Need-loop-less Inv-loop μ-loop
-loop-less c = search needs
-
 loop-again : tie.Need-loop-again Inv-loop μ-loop
 loop-again c =
     let l = c .before .before .loop in
@@ -118,7 +109,7 @@ load-spec =
     (tie.spec
     Inv-loop
     μ-loop
-    lies-requires
+    (λ c κs. search needs)
     returns
     loop-holds
     mul-n
@@ -127,7 +118,7 @@ load-spec =
     shared-slice-read-n
     cast-n
     add-n-2
-    sub-left
-    loop-less
+    (λ c. search needs)
+    (λ c. search needs)
     loop-again
     returns-2)

@@ -50,9 +50,6 @@ Inv-loop buf₀ at width n rest₀ done₀ buf rest done =
 abbrev μ-loop : tie.MeasureT-loop
 μ-loop buf₀ at width n rest₀ done₀ buf rest done = width - done
 
-lies-requires : tie.Need-lies-requires Inv-loop μ-loop
-lies-requires c κs = search needs
-
 returns : tie.Need-returns Inv-loop μ-loop
 unfolding withField
 returns c = off _ _ _ (sym (c .before .lies .ensures) ∙ not-true _ (c .if1 .taken)) refl
@@ -64,23 +61,11 @@ loop-holds c =
       (refl, (sym (div-one (a .n)), begins (a .buf .now) (a .at) (a .width) (a .n))),
     )
 
-add-done : tie.Need-add-done Inv-loop μ-loop
-add-done c = search needs
-
-cast-buf : tie.Need-cast-buf Inv-loop μ-loop
-cast-buf c = search needs
-
-sub-buf : tie.Need-sub-buf Inv-loop μ-loop
-sub-buf c = search needs
-
 add-buf : tie.Need-add-buf Inv-loop μ-loop
 add-buf c = omega arith
 
 slice-write-buf : tie.Need-slice-write-buf Inv-loop μ-loop
 slice-write-buf c = omega arith
-
-loop-less : tie.Need-loop-less Inv-loop μ-loop
-loop-less c = search needs
 
 loop-again : tie.Need-loop-again Inv-loop μ-loop
 loop-again c =
@@ -113,15 +98,15 @@ store-spec =
     (tie.spec
     Inv-loop
     μ-loop
-    lies-requires
+    (λ c κs. search needs)
     returns
     loop-holds
-    add-done
-    cast-buf
-    sub-buf
+    (λ c. search needs)
+    (λ c. search needs)
+    (λ c. search needs)
     add-buf
     slice-write-buf
-    loop-less
+    (λ c. search needs)
     loop-again
     same-length
     returns-2)

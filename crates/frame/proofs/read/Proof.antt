@@ -15,12 +15,6 @@ is-read : (s : List ℕ) (n : ℕ) (f : Fields) → f ≡ fieldsOf s → n ≡ r
 unfolding readFrame
 is-read s n f p e = ap₂ reading (e ∙ ap (λ (x : Fields). refusal (readRows (length s) x)) p) p
 
-split-requires : tie.Need-split-requires
-split-requires c κs = search needs
-
-read-number-requires : tie.Need-read-number-requires
-read-number-requires c κs = search needs
-
 returns : tie.Need-returns
 returns c =
     let r = c .before .read-number in
@@ -32,4 +26,4 @@ returns-2 c =
     on _ _ _ (eq-eqb (r .result) 0 (c .before .if1 .left)) refl ∙ is-read _ _ _ (c .before .before .before .split .ensures) (r .ensures)
 
 pub read-spec : {M : Type 1} → statement M
-read-spec = tie.close (tie.spec split-requires read-number-requires returns returns-2)
+read-spec = tie.close (tie.spec (λ c κs. search needs) (λ c κs. search needs) returns returns-2)

@@ -5,18 +5,12 @@ use Rattle.frame.specs.Frame.{formRows, messageRows, readRows}
 use Rattle.frame.proofs.read_number.Statement.{statement}
 use Rattle.frame.proofs.read_number.Tie as tie
 
-form-number-requires : tie.Need-form-number-requires
-form-number-requires c κs = search needs
-
 returns : tie.Need-returns
 unfolding readRows
 returns c =
     let a = c .before .before .args in
     let e = c .before .form-number .ensures in
     e ∙ first-refuses (formRows (a .len) (a .f)) (messageRows (a .f .message)) (λ z. c .if1 .taken (e ∙ z))
-
-message-number-requires : tie.Need-message-number-requires
-message-number-requires c κs = search needs
 
 returns-2 : tie.Need-returns-2
 unfolding formRows readRows
@@ -27,4 +21,4 @@ returns-2 c =
 
 pub read-number-spec : {M : Type 1} → statement M
 read-number-spec =
-    tie.close (tie.spec form-number-requires returns message-number-requires returns-2)
+    tie.close (tie.spec (λ c κs. search needs) returns (λ c κs. search needs) returns-2)

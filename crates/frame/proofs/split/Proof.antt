@@ -29,38 +29,20 @@ six : (s : List ℕ) → length s ≡ size → {mark version feeder kind sender 
     → fieldsFrom (mark ∷ version ∷ feeder ∷ kind ∷ sender ∷ counter ∷ []) ≡ fieldsFrom (fieldsIn widths s)
 six s h a b c d e f = (λ i. fieldsFrom (a i ∷ b i ∷ c i ∷ d i ∷ e i ∷ f i ∷ [])) ∙ ap fieldsFrom (loads-row s 0 widths tt (omega arith))
 
-load-requires : tie.Need-load-requires
-load-requires c κs = search needs
-
 cast-mark : tie.Need-cast-mark
 cast-mark c = fits _ _ _ _ _ (c .before .before .shared-slice-known .given) (c .load .ensures) tt
-
-load-requires-2 : tie.Need-load-requires-2
-load-requires-2 c κs = search needs
 
 cast-version : tie.Need-cast-version
 cast-version c = fits _ _ _ _ _ (c .before .before .before .shared-slice-known .given) (c .load2 .ensures) tt
 
-load-requires-3 : tie.Need-load-requires-3
-load-requires-3 c κs = search needs
-
 cast-feeder : tie.Need-cast-feeder
 cast-feeder c = fits _ _ _ _ _ (c .before .before .before .before .shared-slice-known .given) (c .load3 .ensures) tt
-
-load-requires-4 : tie.Need-load-requires-4
-load-requires-4 c κs = search needs
 
 cast-kind : tie.Need-cast-kind
 cast-kind c = fits _ _ _ _ _ (c .before .before .before .before .before .shared-slice-known .given) (c .load4 .ensures) tt
 
-load-requires-5 : tie.Need-load-requires-5
-load-requires-5 c κs = search needs
-
 cast-sender : tie.Need-cast-sender
 cast-sender c = fits _ _ _ _ _ (c .before .before .before .before .before .before .shared-slice-known .given) (c .load5 .ensures) tt
-
-load-requires-6 : tie.Need-load-requires-6
-load-requires-6 c κs = search needs
 
 cast-counter : tie.Need-cast-counter
 cast-counter c = fits _ _ _ _ _ (c .before .before .before .before .before .before .before .shared-slice-known .given) (c .load6 .ensures) tt
@@ -91,17 +73,17 @@ pub split-spec : {M : Type 1} → statement M
 split-spec =
     tie.close
     (tie.spec
-    load-requires
+    (λ c κs. search needs)
     cast-mark
-    load-requires-2
+    (λ c κs. search needs)
     cast-version
-    load-requires-3
+    (λ c κs. search needs)
     cast-feeder
-    load-requires-4
+    (λ c κs. search needs)
     cast-kind
-    load-requires-5
+    (λ c κs. search needs)
     cast-sender
-    load-requires-6
+    (λ c κs. search needs)
     cast-counter
     returns
     returns-2)

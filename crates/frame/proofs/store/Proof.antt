@@ -5,33 +5,6 @@ use Rattle.frame.proofs.Stored.{stored}
 use Rattle.frame.proofs.store.Statement.{statement}
 use Rattle.frame.proofs.store.Tie as tie
 
-cast-store : tie.Need-cast-store
-cast-store c = search needs
-
-store-requires : tie.Need-store-requires
-store-requires c κs = search needs
-
-cast-store-2 : tie.Need-cast-store-2
-cast-store-2 c = search needs
-
-store-requires-2 : tie.Need-store-requires-2
-store-requires-2 c κs = search needs
-
-store-requires-3 : tie.Need-store-requires-3
-store-requires-3 c κs = search needs
-
-store-requires-4 : tie.Need-store-requires-4
-store-requires-4 c κs = search needs
-
-store-requires-5 : tie.Need-store-requires-5
-store-requires-5 c κs = search needs
-
-store-requires-6 : tie.Need-store-requires-6
-store-requires-6 c κs = search needs
-
-same-length : tie.Need-same-length
-same-length c = search needs
-
 returns : tie.Need-returns
 returns c =
     let sixth = c .before .before in
@@ -55,13 +28,13 @@ pub store-spec : {M : Type 1} → statement M
 store-spec =
     tie.close
     (tie.spec
-    cast-store
-    store-requires
-    cast-store-2
-    store-requires-2
-    store-requires-3
-    store-requires-4
-    store-requires-5
-    store-requires-6
-    same-length
+    (λ c. search needs)
+    (λ c κs. search needs)
+    (λ c. search needs)
+    (λ c κs. search needs)
+    (λ c κs. search needs)
+    (λ c κs. search needs)
+    (λ c κs. search needs)
+    (λ c κs. search needs)
+    (λ c. search needs)
     returns)

@@ -4,14 +4,8 @@ use Rattle.frame.proofs.Stored.{room, done, kept}
 use Rattle.frame.proofs.write.Statement.{statement}
 use Rattle.frame.proofs.write.Tie as tie
 
-write-number-requires : tie.Need-write-number-requires
-write-number-requires c κs = search needs
-
 store-requires : tie.Need-store-requires
 store-requires c κs = room _ _ (sym (c .before .before .write-number .ensures) ∙ c .before .if1 .taken)
-
-same-length : tie.Need-same-length
-same-length c = search needs
 
 returns : tie.Need-returns
 returns c =
@@ -23,4 +17,4 @@ returns-2 c = kept _ _ _ (c .before .write-number .ensures) (c .if1 .left)
 
 pub write-spec : {M : Type 1} → statement M
 write-spec =
-    tie.close (tie.spec write-number-requires store-requires same-length returns returns-2)
+    tie.close (tie.spec (λ c κs. search needs) store-requires (λ c. search needs) returns returns-2)

@@ -8,12 +8,9 @@ returns : tie.Need-returns
 unfolding writeRows
 returns c = search (picks, needs) depth 8
 
-message-number-requires : tie.Need-message-number-requires
-message-number-requires c κs = search needs
-
 returns-2 : tie.Need-returns-2
 unfolding writeRows
 returns-2 c = search (picks, needs) depth 8
 
 pub write-number-spec : {M : Type 1} → statement M
-write-number-spec = tie.close (tie.spec returns message-number-requires returns-2)
+write-number-spec = tie.close (tie.spec returns (λ c κs. search needs) returns-2)

@@ -10,26 +10,8 @@ use Rattle.nights_main.proofs.Holding.{feed-short, held}
 use Rattle.nights_main.proofs.holds.Statement.{statement}
 use Rattle.nights_main.proofs.holds.Tie as tie
 
-new-requires : tie.Need-new-requires
-new-requires c κs = search needs
-
-slice-aggregate-feed : tie.Need-slice-aggregate-feed
-slice-aggregate-feed c = search needs
-
-feed-requires : tie.Need-feed-requires
-feed-requires c κs = search needs
-
-is-done-requires : tie.Need-is-done-requires
-is-done-requires c κs = search needs
-
 returns : tie.Need-returns
 returns c = λ e. absurd (true≢false (sym e))
-
-slice-aggregate-finish : tie.Need-slice-aggregate-finish
-slice-aggregate-finish c = search needs
-
-finish-requires : tie.Need-finish-requires
-finish-requires c κs = search needs
 
 returns-2 : tie.Need-returns-2
 returns-2 c = λ e. absurd (true≢false (sym e))
@@ -43,29 +25,14 @@ array-share-prefix-out c = feed-short _ _ _ _ _ (c .before .before .before .befo
 slice-aggregate-same-2 : tie.Need-slice-aggregate-same-2
 slice-aggregate-same-2 c = sym (length-take-le _ _ (feed-short _ _ _ _ _ (c .before .before .before .before .before .before .before .before .before .before .feed .ensures)))
 
-same-requires : tie.Need-same-requires
-same-requires c κs = search needs
-
 returns-3 : tie.Need-returns-3
 returns-3 c = λ e. absurd (true≢false (sym e))
-
-sub-same : tie.Need-sub-same
-sub-same c = search needs
-
-part-same-start : tie.Need-part-same-start
-part-same-start c = search needs
-
-part-same-end : tie.Need-part-same-end
-part-same-end c = search needs
 
 array-share-prefix-end : tie.Need-array-share-prefix-end
 array-share-prefix-end c = ended-fits _ _ _ _ (c .before .before .before .before .before .before .before .finish .ensures)
 
 slice-aggregate-same-3 : tie.Need-slice-aggregate-same-3
 slice-aggregate-same-3 c = sym (length-take-le _ _ (ended-fits _ _ _ _ (c .before .before .before .before .before .before .before .before .finish .ensures)))
-
-same-requires-2 : tie.Need-same-requires-2
-same-requires-2 c κs = search needs
 
 returns-4 : tie.Need-returns-4
 returns-4 c = λ e.
@@ -77,23 +44,23 @@ pub holds-spec : {M : Type 1} → statement M
 holds-spec =
     tie.close
     (tie.spec
-    new-requires
-    slice-aggregate-feed
-    feed-requires
-    is-done-requires
+    (λ c κs. search needs)
+    (λ c. search needs)
+    (λ c κs. search needs)
+    (λ c κs. search needs)
     returns
-    slice-aggregate-finish
-    finish-requires
+    (λ c. search needs)
+    (λ c κs. search needs)
     returns-2
     slice-aggregate-same
     array-share-prefix-out
     slice-aggregate-same-2
-    same-requires
+    (λ c κs. search needs)
     returns-3
-    sub-same
-    part-same-start
-    part-same-end
+    (λ c. search needs)
+    (λ c. search needs)
+    (λ c. search needs)
     array-share-prefix-end
     slice-aggregate-same-3
-    same-requires-2
+    (λ c κs. search needs)
     returns-4)

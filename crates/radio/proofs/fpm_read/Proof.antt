@@ -2,9 +2,6 @@ use borrow.Author.Needs.{needs}
 use Rattle.radio.proofs.fpm_read.Statement.{statement}
 use Rattle.radio.proofs.fpm_read.Tie as tie
 
-read-requires : tie.Need-read-requires
-read-requires c κs = search needs
-
 returns : tie.Need-returns
 returns c =
     let e = c .before .read .ensures in
@@ -17,4 +14,4 @@ returns c =
     }
 
 pub fpm-read-spec : {M : Type 1} → statement M
-fpm-read-spec = tie.close (tie.spec read-requires returns)
+fpm-read-spec = tie.close (tie.spec (λ c κs. search needs) returns)

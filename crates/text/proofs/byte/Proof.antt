@@ -7,15 +7,6 @@ use Rattle.text.proofs.Putting.{puts-all, puts-none}
 use Rattle.text.proofs.byte.Statement.{statement}
 use Rattle.text.proofs.byte.Tie as tie
 
-slice-write-out : tie.Need-slice-write-out
-slice-write-out c = search needs
-
-add-result : tie.Need-add-result
-add-result c = search needs
-
-same-length : tie.Need-same-length
-same-length c = search needs
-
 returns : tie.Need-returns
 returns c = puts-all (omega arith) (record { next-place = refl; bytes = refl; long = search needs })
 
@@ -23,4 +14,4 @@ returns-2 : tie.Need-returns-2
 returns-2 c = puts-none _ _ (c .before .args .b ∷ []) (omega arith)
 
 pub byte-spec : {M : Type 1} → statement M
-byte-spec = tie.close (tie.spec slice-write-out add-result same-length returns returns-2)
+byte-spec = tie.close (tie.spec (λ c. search needs) (λ c. search needs) (λ c. search needs) returns returns-2)

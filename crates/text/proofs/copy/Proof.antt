@@ -16,35 +16,17 @@ Inv-loop out₀ at w i₀ out i = (i ≤ length w) × (out ≡ sets out₀ at (t
 abbrev μ-loop : tie.MeasureT-loop
 μ-loop out₀ at w i₀ out i = length w - i
 
-loop-holds : tie.Need-loop-holds Inv-loop μ-loop
-loop-holds c = search needs
-
-shared-slice-read-out : tie.Need-shared-slice-read-out Inv-loop μ-loop
-shared-slice-read-out c = search needs
-
-add-out : tie.Need-add-out Inv-loop μ-loop
-add-out c = search needs
-
 slice-write-out : tie.Need-slice-write-out Inv-loop μ-loop
 slice-write-out c =
     let a = c .before .before .before .args in
     let l = put-long (a .out .now) (a .w .now) (c .before .before .loop .out) (a .at) (c .before .before .loop .i) (c .before .before .loop .inv .1) in
     omega arith
 
-add-i : tie.Need-add-i Inv-loop μ-loop
-add-i c = search needs
-
-loop-less : tie.Need-loop-less Inv-loop μ-loop
-loop-less c = search needs
-
 loop-again : tie.Need-loop-again Inv-loop μ-loop
 loop-again c =
     let a = c .before .before .before .args in
     let i = c .before .before .loop .i in
     (omega arith, ap (λ (o : List ℕ). set o (a .at + i) (getD (a .w .now) i 0)) (c .before .before .loop .inv .1) ∙ put-more (a .out .now) (a .w .now) (a .at) i (omega arith))
-
-add-result : tie.Need-add-result Inv-loop μ-loop
-add-result c = search needs
 
 same-length : tie.Need-same-length Inv-loop μ-loop
 same-length c =
@@ -62,13 +44,13 @@ copy-spec =
     (tie.spec
     Inv-loop
     μ-loop
-    loop-holds
-    shared-slice-read-out
-    add-out
+    (λ c. search needs)
+    (λ c. search needs)
+    (λ c. search needs)
     slice-write-out
-    add-i
-    loop-less
+    (λ c. search needs)
+    (λ c. search needs)
     loop-again
-    add-result
+    (λ c. search needs)
     same-length
     returns)

@@ -28,12 +28,6 @@ abbrev μ-loop : tie.MeasureT-loop
 loop-holds : tie.Need-loop-holds Inv-loop μ-loop
 loop-holds c = (omega arith, refl, search (length-mapped, needs), refl)
 
-sub-is-stop : tie.Need-sub-is-stop Inv-loop μ-loop
-sub-is-stop c = search needs
-
-is-stop-requires : tie.Need-is-stop-requires Inv-loop μ-loop
-is-stop-requires c κs = search needs
-
 same-length : tie.Need-same-length Inv-loop μ-loop
 same-length c = c .before .before .before .before .loop .inv .1
 
@@ -44,62 +38,11 @@ returns c =
     let e = sym (feed-stop (a .input .now) (holding (w .night) (w .bench)) (w .used) (w .written) (w .out) (c .before .before .before .loop-test .taken) (sym (c .before .before .is-stop .ensures) ∙ c .before .if1 .taken)) ∙ w .inv .3 in
     record { gives = λ i. e i .fed; leaves = λ i. e i .bytes }
 
-shared-slice-read-b : tie.Need-shared-slice-read-b Inv-loop μ-loop
-shared-slice-read-b c = search needs
-
-is-plain-requires : tie.Need-is-plain-requires Inv-loop μ-loop
-is-plain-requires c κs = search needs
-
-push-requires : tie.Need-push-requires Inv-loop μ-loop
-push-requires c κs = search needs
-
-is-asked-requires : tie.Need-is-asked-requires Inv-loop μ-loop
-is-asked-requires c κs = search needs
-
-read-command-requires : tie.Need-read-command-requires Inv-loop μ-loop
-read-command-requires c κs = search needs
-
 callee-requires : tie.Need-callee-requires Inv-loop μ-loop
 callee-requires c κs = subst Safe (sym (c .read-command .ensures)) (command-safe _ _)
 
 pair-requires : tie.Need-pair-requires Inv-loop μ-loop
 pair-requires c κs = subst Safe (sym (c .before .read-command .ensures)) (command-safe _ _)
-
-mul-post : tie.Need-mul-post Inv-loop μ-loop
-mul-post c = search needs
-
-element-copy-out-post : tie.Need-element-copy-out-post Inv-loop μ-loop
-element-copy-out-post c = search needs
-
-mul-read : tie.Need-mul-read Inv-loop μ-loop
-mul-read c = search needs
-
-element-copy-out-read : tie.Need-element-copy-out-read Inv-loop μ-loop
-element-copy-out-read c = search needs
-
-run-requires : tie.Need-run-requires Inv-loop μ-loop
-run-requires c κs = search needs
-
-empty-requires : tie.Need-empty-requires Inv-loop μ-loop
-empty-requires c κs = search needs
-
-mul-next : tie.Need-mul-next Inv-loop μ-loop
-mul-next c = search needs
-
-element-set-from-next : tie.Need-element-set-from-next Inv-loop μ-loop
-element-set-from-next c = search needs
-
-mul-message : tie.Need-mul-message Inv-loop μ-loop
-mul-message c = search needs
-
-element-set-from-message : tie.Need-element-set-from-message Inv-loop μ-loop
-element-set-from-message c = search needs
-
-mul-night : tie.Need-mul-night Inv-loop μ-loop
-mul-night c = search needs
-
-element-write-night : tie.Need-element-write-night Inv-loop μ-loop
-element-write-night c = search needs
 
 add-bench : tie.Need-add-bench Inv-loop μ-loop
 add-bench c =
@@ -120,12 +63,6 @@ turn-requires c κs =
     let w = c .before .before .before .before .before .before .before .before .before .before .loop in
     let l = roomy (holding (w .night) (w .bench)) (w .written) (w .out) (sym (c .before .before .before .before .before .before .before .before .is-stop .ensures) ∙ c .before .before .before .before .before .before .before .if1 .left) in
     (omega arith, sym (c .before .before .is-asked .ensures) ∙ c .before .if3 .left)
-
-add-used : tie.Need-add-used Inv-loop μ-loop
-add-used c = search needs
-
-loop-less : tie.Need-loop-less Inv-loop μ-loop
-loop-less c = search needs
 
 loop-again : tie.Need-loop-again Inv-loop μ-loop
 unfolding plain
@@ -192,34 +129,34 @@ feed-spec =
     Inv-loop
     μ-loop
     loop-holds
-    sub-is-stop
-    is-stop-requires
+    (λ c. search needs)
+    (λ c κs. search needs)
     same-length
     returns
-    shared-slice-read-b
-    is-plain-requires
-    push-requires
-    is-asked-requires
-    read-command-requires
+    (λ c. search needs)
+    (λ c κs. search needs)
+    (λ c κs. search needs)
+    (λ c κs. search needs)
+    (λ c κs. search needs)
     callee-requires
     pair-requires
-    mul-post
-    element-copy-out-post
-    mul-read
-    element-copy-out-read
-    run-requires
-    empty-requires
-    mul-next
-    element-set-from-next
-    mul-message
-    element-set-from-message
-    mul-night
-    element-write-night
+    (λ c. search needs)
+    (λ c. search needs)
+    (λ c. search needs)
+    (λ c. search needs)
+    (λ c κs. search needs)
+    (λ c κs. search needs)
+    (λ c. search needs)
+    (λ c. search needs)
+    (λ c. search needs)
+    (λ c. search needs)
+    (λ c. search needs)
+    (λ c. search needs)
     add-bench
     answer-requires
     turn-requires
-    add-used
-    loop-less
+    (λ c. search needs)
+    (λ c. search needs)
     loop-again
     same-length-2
     returns-2)

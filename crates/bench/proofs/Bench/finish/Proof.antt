@@ -11,20 +11,8 @@ returns c = no-room (c .before .before .args .self) (now (c .before .before .arg
 returns-2 : tie.Need-returns-2
 returns-2 c = was-over (c .before .before .before .before .args .self) (now (c .before .before .before .before .args .out)) (c .before .before .if1 .left) (c .if2 .taken)
 
-last-piece-requires : tie.Need-last-piece-requires
-last-piece-requires c κs = search needs
-
-same-length : tie.Need-same-length
-same-length c = search needs
-
 returns-3 : tie.Need-returns-3
 returns-3 c = ends-over (c .before .before .before .before .before .before .before .before .before .before .before .args .self) (now (c .before .before .before .before .before .before .before .before .before .before .before .args .out)) (c .before .before .before .before .before .before .before .before .before .if1 .left) (c .before .before .before .before .before .before .before .if2 .left) (c .before .before .before .before .before .last-piece .result) _ (c .before .before .before .before .before .last-piece .ensures) (c .if3 .taken)
-
-last-line-requires : tie.Need-last-line-requires
-last-line-requires c κs = search needs
-
-same-length-2 : tie.Need-same-length-2
-same-length-2 c = search needs
 
 returns-4 : tie.Need-returns-4
 returns-4 c = ends-on (c .before .before .before .before .before .before .before .before .before .before .before .before .before .before .before .before .args .self) (now (c .before .before .before .before .before .before .before .before .before .before .before .before .before .before .before .before .args .out)) (c .before .before .before .before .before .before .before .before .before .before .before .before .before .before .if1 .left) (c .before .before .before .before .before .before .before .before .before .before .before .before .if2 .left) (c .before .before .before .before .before .before .before .before .before .before .last-piece .result) _ (c .before .before .before .before .before .before .before .before .before .before .last-piece .ensures) (c .before .before .before .before .before .if3 .left) _ _ (c .before .before .last-line .ensures)
@@ -35,9 +23,9 @@ finish-spec =
     (tie.spec
     returns
     returns-2
-    last-piece-requires
-    same-length
+    (λ c κs. search needs)
+    (λ c. search needs)
     returns-3
-    last-line-requires
-    same-length-2
+    (λ c κs. search needs)
+    (λ c. search needs)
     returns-4)

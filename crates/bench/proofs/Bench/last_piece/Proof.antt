@@ -10,18 +10,6 @@ use Rattle.bench.proofs.Running.{fed-line}
 use Rattle.bench.proofs.Bench.last_piece.Statement.{statement}
 use Rattle.bench.proofs.Bench.last_piece.Tie as tie
 
-is-pending-requires : tie.Need-is-pending-requires
-is-pending-requires c κs = search needs
-
-slice-aggregate-feed : tie.Need-slice-aggregate-feed
-slice-aggregate-feed c = search needs
-
-feed-requires : tie.Need-feed-requires
-feed-requires c κs = search needs
-
-same-length : tie.Need-same-length
-same-length c = search needs
-
 returns : tie.Need-returns
 returns c =
     let a = c .before .before .before .before .before .before .before .before .before .before .args in
@@ -36,4 +24,4 @@ returns-2 c =
 pub last-piece-spec : {M : Type 1} → statement M
 last-piece-spec =
     tie.close
-    (tie.spec is-pending-requires slice-aggregate-feed feed-requires same-length returns returns-2)
+    (tie.spec (λ c κs. search needs) (λ c. search needs) (λ c κs. search needs) (λ c. search needs) returns returns-2)

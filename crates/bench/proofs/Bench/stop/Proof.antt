@@ -8,15 +8,6 @@ use Rattle.bench.proofs.Running.{stops-few}
 use Rattle.bench.proofs.Bench.stop.Statement.{statement}
 use Rattle.bench.proofs.Bench.stop.Tie as tie
 
-answer-requires : tie.Need-answer-requires
-answer-requires c κs = search needs
-
-last-line-requires : tie.Need-last-line-requires
-last-line-requires c κs = search needs
-
-same-length : tie.Need-same-length
-same-length c = search needs
-
 returns : tie.Need-returns
 unfolding stops
 returns c =
@@ -26,4 +17,4 @@ returns c =
     record { bench = refl; puts = p; few = (let n = p .next-place in omega arith); going = λ e. absurd (omega arith) }
 
 pub stop-spec : {M : Type 1} → statement M
-stop-spec = tie.close (tie.spec answer-requires last-line-requires same-length returns)
+stop-spec = tie.close (tie.spec (λ c κs. search needs) (λ c κs. search needs) (λ c. search needs) returns)

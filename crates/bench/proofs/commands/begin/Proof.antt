@@ -18,30 +18,9 @@ Inv-loop n k posts₀ p₀ posts p = (p ≤ 16) × (length posts ≡ 16) × (tak
 abbrev μ-loop : tie.MeasureT-loop
 μ-loop n k posts₀ p₀ posts p = 16 - p
 
-opened-requires : tie.Need-opened-requires Inv-loop μ-loop
-opened-requires c κs = search needs
-
 loop-holds : tie.Need-loop-holds Inv-loop μ-loop
 unfolding from
 loop-holds c = (omega arith, refl, refl)
-
-cast-opened : tie.Need-cast-opened Inv-loop μ-loop
-cast-opened c = search needs
-
-opened-requires-2 : tie.Need-opened-requires-2 Inv-loop μ-loop
-opened-requires-2 c κs = search needs
-
-mul-posts : tie.Need-mul-posts Inv-loop μ-loop
-mul-posts c = search needs
-
-array-set-from-posts : tie.Need-array-set-from-posts Inv-loop μ-loop
-array-set-from-posts c = search needs
-
-add-p : tie.Need-add-p Inv-loop μ-loop
-add-p c = search needs
-
-loop-less : tie.Need-loop-less Inv-loop μ-loop
-loop-less c = search needs
 
 loop-again : tie.Need-loop-again Inv-loop μ-loop
 loop-again c = (omega arith, length-set (c .before .before .loop .posts) (c .before .before .loop .p) (c .opened2 .result) ∙ c .before .before .loop .inv .1, fill-one (opened (c .before .before .before .before .args .n) (c .before .before .before .before .args .k)) (c .before .before .loop .posts) (c .before .before .loop .p) (c .opened2 .result) (omega arith) (c .before .before .loop .inv .2) (c .opened2 .ensures))
@@ -58,13 +37,13 @@ begin-spec =
     (tie.spec
     Inv-loop
     μ-loop
-    opened-requires
+    (λ c κs. search needs)
     loop-holds
-    cast-opened
-    opened-requires-2
-    mul-posts
-    array-set-from-posts
-    add-p
-    loop-less
+    (λ c. search needs)
+    (λ c κs. search needs)
+    (λ c. search needs)
+    (λ c. search needs)
+    (λ c. search needs)
+    (λ c. search needs)
     loop-again
     returns)

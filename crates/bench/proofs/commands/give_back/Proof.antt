@@ -6,18 +6,6 @@ use Rattle.bench.specs.Night.{speaks}
 use Rattle.bench.proofs.commands.give_back.Statement.{statement}
 use Rattle.bench.proofs.commands.give_back.Tie as tie
 
-slice-aggregate-give-back : tie.Need-slice-aggregate-give-back
-slice-aggregate-give-back c = search needs
-
-give-back-requires : tie.Need-give-back-requires
-give-back-requires c κs = search needs
-
-slice-aggregate-split : tie.Need-slice-aggregate-split
-slice-aggregate-split c = search needs
-
-split-requires : tie.Need-split-requires
-split-requires c κs = search needs
-
 returns : tie.Need-returns
 unfolding speaks
 returns c =
@@ -28,8 +16,8 @@ pub give-back-spec : {M : Type 1} → statement M
 give-back-spec =
     tie.close
     (tie.spec
-    slice-aggregate-give-back
-    give-back-requires
-    slice-aggregate-split
-    split-requires
+    (λ c. search needs)
+    (λ c κs. search needs)
+    (λ c. search needs)
+    (λ c κs. search needs)
     returns)

@@ -11,17 +11,8 @@ use Rattle.bench.proofs.Nights.{all-filled}
 use Rattle.bench.proofs.commands.next.Statement.{statement}
 use Rattle.bench.proofs.commands.next.Tie as tie
 
-seek-requires : tie.Need-seek-requires
-seek-requires c κs = search needs
-
-returns : tie.Need-returns
-returns c = search needs
-
-seek-requires-2 : tie.Need-seek-requires-2
-seek-requires-2 c κs = search needs
-
 returns-2 : tie.Need-returns-2
 returns-2 c = let a = c .before .before .args in c .seek2 .ensures ∙ ap (λ (l : List Message). seek (a .p) (a .read) (drop (a .read) l)) (all-filled (a .sent) (a .count) (search (length-mapped, needs)) (omega arith))
 
 pub next-spec : {M : Type 1} → statement M
-next-spec = tie.close (tie.spec seek-requires returns seek-requires-2 returns-2)
+next-spec = tie.close (tie.spec (λ c κs. search needs) (λ c. search needs) (λ c κs. search needs) returns-2)

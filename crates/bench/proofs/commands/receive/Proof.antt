@@ -9,27 +9,6 @@ use Rattle.bench.specs.Night.{lent, receives}
 use Rattle.bench.proofs.commands.receive.Statement.{statement}
 use Rattle.bench.proofs.commands.receive.Tie as tie
 
-slice-aggregate-write : tie.Need-slice-aggregate-write
-slice-aggregate-write c = search needs
-
-write-requires : tie.Need-write-requires
-write-requires c κs = search needs
-
-slice-aggregate-receive : tie.Need-slice-aggregate-receive
-slice-aggregate-receive c = search needs
-
-slice-aggregate-receive-2 : tie.Need-slice-aggregate-receive-2
-slice-aggregate-receive-2 c = search needs
-
-receive-requires : tie.Need-receive-requires
-receive-requires c κs = search needs
-
-slice-aggregate-split : tie.Need-slice-aggregate-split
-slice-aggregate-split c = search needs
-
-split-requires : tie.Need-split-requires
-split-requires c κs = search needs
-
 returns : tie.Need-returns
 unfolding receives
 returns c =
@@ -43,11 +22,11 @@ pub receive-spec : {M : Type 1} → statement M
 receive-spec =
     tie.close
     (tie.spec
-    slice-aggregate-write
-    write-requires
-    slice-aggregate-receive
-    slice-aggregate-receive-2
-    receive-requires
-    slice-aggregate-split
-    split-requires
+    (λ c. search needs)
+    (λ c κs. search needs)
+    (λ c. search needs)
+    (λ c. search needs)
+    (λ c κs. search needs)
+    (λ c. search needs)
+    (λ c κs. search needs)
     returns)

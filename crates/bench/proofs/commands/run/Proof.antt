@@ -12,45 +12,12 @@ use Rattle.bench.proofs.commands.run.Tie as tie
 enum-told : tie.Need-enum-told
 enum-told c = search needs
 
-take-requires : tie.Need-take-requires
-take-requires c κs = search needs
-
-after-requires : tie.Need-after-requires
-after-requires c κs = search needs
-
-enum-told-2 : tie.Need-enum-told-2
-enum-told-2 c = search needs
-
-give-back-requires : tie.Need-give-back-requires
-give-back-requires c κs = search needs
-
-after-requires-2 : tie.Need-after-requires-2
-after-requires-2 c κs = search needs
-
-enum-known-c : tie.Need-enum-known-c
-enum-known-c c = search needs
-
-next-requires : tie.Need-next-requires
-next-requires c κs = search needs
-
-refused-requires : tie.Need-refused-requires
-refused-requires c κs = search needs
-
 returns : tie.Need-returns
 returns c =
     let a = c .before .before .before .before .before .before .args in
     let g = c .before .before .before .before .c .given in
     of-command (a .c) _ (g .1) (a .post) (a .sent) (a .count) (a .read) (c .refused .result)
     (changes-as (c .refused .ensures (g .0 .1 .0) (16 * g .0 .0 + g .0 .1 .0)) (λ posts reads e f. none-next (having posts (a .sent) (a .count) reads) (g .0 .0) (g .0 .1 .0) (c .before .before .next .result) (a .read) (c .before .before .next .ensures) f (c .before .if1 .taken)))
-
-offer-requires : tie.Need-offer-requires
-offer-requires c κs = search needs
-
-enum-told-3 : tie.Need-enum-told-3
-enum-told-3 c = search needs
-
-refused-requires-2 : tie.Need-refused-requires-2
-refused-requires-2 c κs = search needs
 
 returns-2 : tie.Need-returns-2
 unfolding ran
@@ -88,18 +55,18 @@ run-spec =
     tie.close
     (tie.spec
     enum-told
-    take-requires
-    after-requires
-    enum-told-2
-    give-back-requires
-    after-requires-2
-    enum-known-c
-    next-requires
-    refused-requires
+    (λ c κs. search needs)
+    (λ c κs. search needs)
+    (λ c. search needs)
+    (λ c κs. search needs)
+    (λ c κs. search needs)
+    (λ c. search needs)
+    (λ c κs. search needs)
+    (λ c κs. search needs)
     returns
-    offer-requires
-    enum-told-3
-    refused-requires-2
+    (λ c κs. search needs)
+    (λ c. search needs)
+    (λ c κs. search needs)
     returns-2
     returns-3
     returns-4

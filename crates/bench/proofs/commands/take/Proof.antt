@@ -6,18 +6,6 @@ use Rattle.bench.specs.Night.{speaks}
 use Rattle.bench.proofs.commands.take.Statement.{statement}
 use Rattle.bench.proofs.commands.take.Tie as tie
 
-slice-aggregate-take : tie.Need-slice-aggregate-take
-slice-aggregate-take c = search needs
-
-take-requires : tie.Need-take-requires
-take-requires c κs = search needs
-
-slice-aggregate-split : tie.Need-slice-aggregate-split
-slice-aggregate-split c = search needs
-
-split-requires : tie.Need-split-requires
-split-requires c κs = search needs
-
 returns : tie.Need-returns
 unfolding speaks
 returns c =
@@ -27,4 +15,4 @@ returns c =
 pub take-spec : {M : Type 1} → statement M
 take-spec =
     tie.close
-    (tie.spec slice-aggregate-take take-requires slice-aggregate-split split-requires returns)
+    (tie.spec (λ c. search needs) (λ c κs. search needs) (λ c. search needs) (λ c κs. search needs) returns)

@@ -7,23 +7,8 @@ use Rattle.bench.proofs.Digits.{after-two, after-one}
 use Rattle.bench.proofs.lines.after_at.Statement.{statement}
 use Rattle.bench.proofs.lines.after_at.Tie as tie
 
-add-byte-at : tie.Need-add-byte-at
-add-byte-at c = search needs
-
-byte-at-requires : tie.Need-byte-at-requires
-byte-at-requires c κs = search needs
-
-digit-requires : tie.Need-digit-requires
-digit-requires c κs = search needs
-
-add-result : tie.Need-add-result
-add-result c = search needs
-
 returns : tie.Need-returns
 returns c = (after-two _ _ _ (c .before .digit .ensures .0 ∙ ap digit (c .before .before .byte-at .ensures)) (c .if1 .taken), omega arith)
-
-add-result-2 : tie.Need-add-result-2
-add-result-2 c = search needs
 
 returns-2 : tie.Need-returns-2
 returns-2 c = (after-one _ _ _ (c .before .digit .ensures .0 ∙ ap digit (c .before .before .byte-at .ensures)) (c .if1 .left), omega arith)
@@ -32,10 +17,10 @@ pub after-at-spec : {M : Type 1} → statement M
 after-at-spec =
     tie.close
     (tie.spec
-    add-byte-at
-    byte-at-requires
-    digit-requires
-    add-result
+    (λ c. search needs)
+    (λ c κs. search needs)
+    (λ c κs. search needs)
+    (λ c. search needs)
     returns
-    add-result-2
+    (λ c. search needs)
     returns-2)

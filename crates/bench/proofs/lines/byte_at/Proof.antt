@@ -7,20 +7,14 @@ use Rattle.bench.proofs.Digits.{beyond, past}
 use Rattle.bench.proofs.lines.byte_at.Statement.{statement}
 use Rattle.bench.proofs.lines.byte_at.Tie as tie
 
-cast-if1 : tie.Need-cast-if1
-cast-if1 c = search needs
-
 returns : tie.Need-returns
 returns c = sym (beyond (c .before .before .before .args .line .len) (c .before .before .before .args .i) (c .before .before .before .args .line .bytes) (c .if1 .taken))
 
 returns-2 : tie.Need-returns-2
 returns-2 c = sym (past (c .before .before .before .before .args .line .len) (c .before .before .before .before .args .i) (c .before .before .before .before .args .line .bytes) (let l : length (c .before .before .before .before .args .line .bytes) ≡ 8 = search needs in omega arith))
 
-array-read-result : tie.Need-array-read-result
-array-read-result c = search needs
-
 returns-3 : tie.Need-returns-3
 returns-3 c = sym (getD-take (c .before .before .before .before .args .line .len) (c .before .before .before .before .args .line .bytes) (c .before .before .before .before .args .i) 0 (c .before .if1 .left))
 
 pub byte-at-spec : {M : Type 1} → statement M
-byte-at-spec = tie.close (tie.spec cast-if1 returns returns-2 array-read-result returns-3)
+byte-at-spec = tie.close (tie.spec (λ c. search needs) returns returns-2 (λ c. search needs) returns-3)

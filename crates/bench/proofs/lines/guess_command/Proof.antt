@@ -18,12 +18,6 @@ is k e h = eq-eqb _ k (sym e ∙ h)
 isnt : {b x : ℕ} (k : ℕ) → b ≡ x → (b ≡ k → ⊥) → eqb x k ≡ false
 isnt k e h = ne-eqb _ k (λ f. h (e ∙ f))
 
-byte-at-requires : tie.Need-byte-at-requires
-byte-at-requires c κs = search needs
-
-number-at-requires : tie.Need-number-at-requires
-number-at-requires c κs = search needs
-
 returns : tie.Need-returns
 unfolding guessCommand
 returns c = on _ _ _ (is 84 (c .before .before .byte-at .ensures) (c .if1 .taken)) (ap Take (c .before .number-at .ensures))
@@ -33,12 +27,6 @@ unfolding guessCommand
 returns-2 c =
     let e = c .before .before .before .byte-at .ensures in
     off _ _ _ (isnt 84 e (c .before .if1 .left)) (on _ _ _ (is 82 e (c .if2 .taken)) (ap Return (c .before .before .number-at .ensures)))
-
-after-at-requires : tie.Need-after-at-requires
-after-at-requires c κs = search needs
-
-number-at-requires-2 : tie.Need-number-at-requires-2
-number-at-requires-2 c κs = search needs
 
 returns-3 : tie.Need-returns-3
 unfolding guessCommand
@@ -57,11 +45,11 @@ pub guess-command-spec : {M : Type 1} → statement M
 guess-command-spec =
     tie.close
     (tie.spec
-    byte-at-requires
-    number-at-requires
+    (λ c κs. search needs)
+    (λ c κs. search needs)
     returns
     returns-2
-    after-at-requires
-    number-at-requires-2
+    (λ c κs. search needs)
+    (λ c κs. search needs)
     returns-3
     returns-4)

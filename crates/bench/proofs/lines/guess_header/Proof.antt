@@ -5,15 +5,6 @@ use Rattle.bench.specs.Inside.{numberAt, guessHeader}
 use Rattle.bench.proofs.lines.guess_header.Statement.{statement}
 use Rattle.bench.proofs.lines.guess_header.Tie as tie
 
-after-at-requires : tie.Need-after-at-requires
-after-at-requires c κs = search needs
-
-number-at-requires : tie.Need-number-at-requires
-number-at-requires c κs = search needs
-
-number-at-requires-2 : tie.Need-number-at-requires-2
-number-at-requires-2 c κs = search needs
-
 returns : tie.Need-returns
 unfolding guessHeader
 returns c =
@@ -22,4 +13,4 @@ returns c =
 
 pub guess-header-spec : {M : Type 1} → statement M
 guess-header-spec =
-    tie.close (tie.spec after-at-requires number-at-requires number-at-requires-2 returns)
+    tie.close (tie.spec (λ c κs. search needs) (λ c κs. search needs) (λ c κs. search needs) returns)

@@ -9,32 +9,11 @@ use Rattle.bench.specs.Lines.{inside, inRangeFor}
 use Rattle.bench.proofs.lines.in_range.Statement.{statement}
 use Rattle.bench.proofs.lines.in_range.Tie as tie
 
-enum-known-c : tie.Need-enum-known-c
-enum-known-c c = search needs
-
-inside-requires : tie.Need-inside-requires
-inside-requires c κs = search needs
-
-enum-known-c-2 : tie.Need-enum-known-c-2
-enum-known-c-2 c = search needs
-
-inside-requires-2 : tie.Need-inside-requires-2
-inside-requires-2 c κs = search needs
-
-enum-known-c-3 : tie.Need-enum-known-c-3
-enum-known-c-3 c = search needs
-
-inside-requires-3 : tie.Need-inside-requires-3
-inside-requires-3 c κs = search needs
-
 returns : tie.Need-returns
 unfolding inRangeFor
 returns c =
     let e = c .before .before .before .c3 .given .1 in
     and-fails _ _ (sym (c .before .inside3 .ensures) ∙ not-true _ (c .if1 .taken)) (search needs) ∙ ap (inRangeFor (c .before .before .before .before .before .args .n)) (sym e)
-
-inside-requires-4 : tie.Need-inside-requires-4
-inside-requires-4 c κs = search needs
 
 returns-2 : tie.Need-returns-2
 unfolding inRangeFor
@@ -67,14 +46,14 @@ pub in-range-spec : {M : Type 1} → statement M
 in-range-spec =
     tie.close
     (tie.spec
-    enum-known-c
-    inside-requires
-    enum-known-c-2
-    inside-requires-2
-    enum-known-c-3
-    inside-requires-3
+    (λ c. search needs)
+    (λ c κs. search needs)
+    (λ c. search needs)
+    (λ c κs. search needs)
+    (λ c. search needs)
+    (λ c κs. search needs)
     returns
-    inside-requires-4
+    (λ c κs. search needs)
     returns-2
     enum-told
     returns-3

@@ -12,12 +12,6 @@ use Rattle.bench.proofs.Lengths.{text-few}
 use Rattle.bench.proofs.lines.is_command.Statement.{statement}
 use Rattle.bench.proofs.lines.is_command.Tie as tie
 
-slice-aggregate-command : tie.Need-slice-aggregate-command
-slice-aggregate-command c = search needs
-
-command-requires : tie.Need-command-requires
-command-requires c κs = search needs
-
 array-share-prefix-bytes : tie.Need-array-share-prefix-bytes
 array-share-prefix-bytes c = let l = text-few (c .before .before .before .args .c) in let n = stands-first (c .before .command .ensures) l .0 in omega arith
 
@@ -28,9 +22,6 @@ slice-aggregate-is-text c =
     let n = stands-first (p .ensures) l .0 in
     sym (length-take-le (p .result) (p .last .0) (omega arith))
 
-is-text-requires : tie.Need-is-text-requires
-is-text-requires c κs = search needs
-
 returns : tie.Need-returns
 returns c = c .is-text .ensures ∙ ap (λ (s : List ℕ). same s (kept (c .before .before .before .before .before .args .line))) (stands-first (c .before .before .before .command .ensures) (text-few (c .before .before .before .before .before .args .c)) .1)
 
@@ -38,9 +29,9 @@ pub is-command-spec : {M : Type 1} → statement M
 is-command-spec =
     tie.close
     (tie.spec
-    slice-aggregate-command
-    command-requires
+    (λ c. search needs)
+    (λ c κs. search needs)
     array-share-prefix-bytes
     slice-aggregate-is-text
-    is-text-requires
+    (λ c κs. search needs)
     returns)

@@ -12,12 +12,6 @@ use Rattle.bench.proofs.Lengths.{pair-few}
 use Rattle.bench.proofs.lines.is_header.Statement.{statement}
 use Rattle.bench.proofs.lines.is_header.Tie as tie
 
-slice-aggregate-pair : tie.Need-slice-aggregate-pair
-slice-aggregate-pair c = search needs
-
-pair-requires : tie.Need-pair-requires
-pair-requires c κs = search needs
-
 array-share-prefix-bytes : tie.Need-array-share-prefix-bytes
 array-share-prefix-bytes c = let l = pair-few (c .before .before .before .args .h .posts) (c .before .before .before .args .h .places) in let n = stands-first (c .before .pair .ensures) l .0 in omega arith
 
@@ -28,9 +22,6 @@ slice-aggregate-is-text c =
     let n = stands-first (p .ensures) l .0 in
     sym (length-take-le (p .result) (p .last .0) (omega arith))
 
-is-text-requires : tie.Need-is-text-requires
-is-text-requires c κs = search needs
-
 returns : tie.Need-returns
 unfolding headerText
 returns c = c .is-text .ensures ∙ ap (λ (s : List ℕ). same s (kept (c .before .before .before .before .before .args .line))) (stands-first (c .before .before .before .pair .ensures) (pair-few (c .before .before .before .before .before .args .h .posts) (c .before .before .before .before .before .args .h .places)) .1)
@@ -39,9 +30,9 @@ pub is-header-spec : {M : Type 1} → statement M
 is-header-spec =
     tie.close
     (tie.spec
-    slice-aggregate-pair
-    pair-requires
+    (λ c. search needs)
+    (λ c κs. search needs)
     array-share-prefix-bytes
     slice-aggregate-is-text
-    is-text-requires
+    (λ c κs. search needs)
     returns)

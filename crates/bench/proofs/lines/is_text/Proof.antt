@@ -24,26 +24,14 @@ compared r s t h = same-test r (same s t) (λ y. eq→same s t (h .0 (is-true r 
 long : (c : tie.Start) → length (c .args .line .bytes) ≡ 8
 long c = search needs
 
-cast-n : tie.Need-cast-n
-cast-n c = search needs
-
 array-share-prefix-bytes : tie.Need-array-share-prefix-bytes
 array-share-prefix-bytes c = let l = long (c .before .before .before .before) in omega arith
 
 slice-aggregate-same : tie.Need-slice-aggregate-same
 slice-aggregate-same c = let l = long (c .before .before .before .before .before) in sym (length-take-le (c .before .before .before .before .before .args .line .len) (c .before .before .before .before .before .args .line .bytes) (omega arith))
 
-same-requires : tie.Need-same-requires
-same-requires c κs = search needs
-
 returns : tie.Need-returns
 returns c = compared (c .same .result) (now (c .before .before .before .before .before .before .args .w)) (kept (c .before .before .before .before .before .before .args .line)) (c .same .ensures)
-
-slice-aggregate-same-2 : tie.Need-slice-aggregate-same-2
-slice-aggregate-same-2 c = search needs
-
-same-requires-2 : tie.Need-same-requires-2
-same-requires-2 c κs = search needs
 
 returns-2 : tie.Need-returns-2
 returns-2 c =
@@ -54,11 +42,11 @@ pub is-text-spec : {M : Type 1} → statement M
 is-text-spec =
     tie.close
     (tie.spec
-    cast-n
+    (λ c. search needs)
     array-share-prefix-bytes
     slice-aggregate-same
-    same-requires
+    (λ c κs. search needs)
     returns
-    slice-aggregate-same-2
-    same-requires-2
+    (λ c. search needs)
+    (λ c κs. search needs)
     returns-2)

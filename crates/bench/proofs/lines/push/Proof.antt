@@ -4,15 +4,6 @@ use Rattle.bench.specs.Lines.{pushed}
 use Rattle.bench.proofs.lines.push.Statement.{statement}
 use Rattle.bench.proofs.lines.push.Tie as tie
 
-cast-at : tie.Need-cast-at
-cast-at c = search needs
-
-element-write-line : tie.Need-element-write-line
-element-write-line c = search needs
-
-add-line : tie.Need-add-line
-add-line c = search needs
-
 returns : tie.Need-returns
 unfolding pushed
 returns c = search (picks, needs) depth 12
@@ -22,4 +13,4 @@ unfolding pushed
 returns-2 c = search (picks, needs) depth 12
 
 pub push-spec : {M : Type 1} → statement M
-push-spec = tie.close (tie.spec cast-at element-write-line add-line returns returns-2)
+push-spec = tie.close (tie.spec (λ c. search needs) (λ c. search needs) (λ c. search needs) returns returns-2)

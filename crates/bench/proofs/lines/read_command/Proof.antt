@@ -6,17 +6,8 @@ use Rattle.bench.proofs.Guessing.{is-command, out-of-range, not-command
 use Rattle.bench.proofs.lines.read_command.Statement.{statement}
 use Rattle.bench.proofs.lines.read_command.Tie as tie
 
-guess-command-requires : tie.Need-guess-command-requires
-guess-command-requires c κs = search needs
-
-in-range-requires : tie.Need-in-range-requires
-in-range-requires c κs = search needs
-
 returns : tie.Need-returns
 returns c = sym (out-of-range _ _ _ (c .before .before .guess-command .ensures) (sym (c .before .in-range .ensures) ∙ not-true _ (c .if1 .taken)))
-
-is-command-requires : tie.Need-is-command-requires
-is-command-requires c κs = search needs
 
 returns-2 : tie.Need-returns-2
 returns-2 c = sym (is-command _ _ _ (c .before .before .before .before .guess-command .ensures) (sym (c .before .before .before .in-range .ensures) ∙ not-false _ (c .before .before .if1 .left)) (sym (c .before .is-command .ensures) ∙ c .if2 .taken))
@@ -28,9 +19,9 @@ pub read-command-spec : {M : Type 1} → statement M
 read-command-spec =
     tie.close
     (tie.spec
-    guess-command-requires
-    in-range-requires
+    (λ c κs. search needs)
+    (λ c κs. search needs)
     returns
-    is-command-requires
+    (λ c κs. search needs)
     returns-2
     returns-3)

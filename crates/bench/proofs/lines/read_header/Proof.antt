@@ -5,15 +5,6 @@ use Rattle.bench.proofs.Guessing.{is-header, too-large, not-header}
 use Rattle.bench.proofs.lines.read_header.Statement.{statement}
 use Rattle.bench.proofs.lines.read_header.Tie as tie
 
-guess-header-requires : tie.Need-guess-header-requires
-guess-header-requires c κs = search needs
-
-header-fits-requires : tie.Need-header-fits-requires
-header-fits-requires c κs = search needs
-
-is-header-requires : tie.Need-is-header-requires
-is-header-requires c κs = search needs
-
 returns : tie.Need-returns
 returns c = sym (is-header _ _ (c .before .before .before .before .guess-header .ensures) (sym (c .before .before .before .header-fits .ensures) ∙ c .before .before .if1 .taken) (sym (c .before .is-header .ensures) ∙ c .if2 .taken))
 
@@ -27,9 +18,9 @@ pub read-header-spec : {M : Type 1} → statement M
 read-header-spec =
     tie.close
     (tie.spec
-    guess-header-requires
-    header-fits-requires
-    is-header-requires
+    (λ c κs. search needs)
+    (λ c κs. search needs)
+    (λ c κs. search needs)
     returns
     returns-2
     returns-3)

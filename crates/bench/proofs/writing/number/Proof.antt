@@ -6,14 +6,8 @@ use Rattle.text.proofs.Putting.{lays, reworded}
 use Rattle.bench.proofs.writing.number.Statement.{statement}
 use Rattle.bench.proofs.writing.number.Tie as tie
 
-number-requires : tie.Need-number-requires
-number-requires c κs = search needs
-
-same-length : tie.Need-same-length
-same-length c = search needs
-
 returns : tie.Need-returns
 returns c = reworded (digits-enough 19 2 _ (omega arith) (omega arith)) (lays (c .before .before .number .ensures))
 
 pub number-spec : {M : Type 1} → statement M
-number-spec = tie.close (tie.spec number-requires same-length returns)
+number-spec = tie.close (tie.spec (λ c κs. search needs) (λ c. search needs) returns)
