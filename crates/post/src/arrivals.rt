@@ -76,7 +76,7 @@ impl Post {
         ensures { λ r. ⌜ r ≡ (acks (viewOf self) m && (leb lastCounter (self .clock) || leb lastCounter (m .counter))) ⌝ }
     {
         if !self.acknowledges(m) {
-            return false; // nothing is sent
+            return false;
         }
         if LAST <= self.clock {
             return true;
@@ -110,7 +110,8 @@ impl Post {
         ensures { λ r. ⌜ Arrives self (now (frame .entry)) len r ⌝ }
     {
         let seen = self.checked();
-        if !seen.orderly {
+        let sound = seen.orderly;
+        if !sound {
             return not_taken(1);
         }
         if len < Self::FRAME {

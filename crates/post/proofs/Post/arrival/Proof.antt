@@ -16,20 +16,20 @@ use Rattle.post.proofs.Works.Rows.{refuses, no-form, elsewhere, no-send
 use Rattle.post.proofs.Post.arrival.Statement.{statement}
 use Rattle.post.proofs.Post.arrival.Tie as tie
 
-well : (c : tie.Else1) → not (sound (c .before .before .before .before .args .self)) ≡ false
-well c = ap not (sym (c .before .before .checked .ensures .holds)) ∙ c .if1 .left
+well : (c : tie.Else1) → not (sound (c .before .before .before .args .self)) ≡ false
+well c = ap not (sym (c .before .checked .ensures .holds)) ∙ c .if1 .left
 
 -- the record is sound, and the sender one of its posts
-known : (c : tie.Else5) → let m = c .before .before .before .before .before .before .before .before .split .result .message in let p = c .before .before .before .before .before .before .before .before .before .before .before .before .before .before .args .self in T (sound p) × (m .sender < p .posts) × (m .sender < 16)
+known : (c : tie.Else5) → let m = c .before .before .before .before .before .before .before .before .split .result .message in let p = c .before .before .before .before .before .before .before .before .before .before .before .before .before .args .self in T (sound p) × (m .sender < p .posts) × (m .sender < 16)
 known c =
-    let t = passes _ (sym (c .before .before .before .before .before .before .before .before .before .before .before .before .checked .ensures .holds) ∙ not-false _ (c .before .before .before .before .before .before .before .before .before .before .if1 .left)) in
+    let t = passes _ (sym (c .before .before .before .before .before .before .before .before .before .before .before .checked .ensures .holds) ∙ not-false _ (c .before .before .before .before .before .before .before .before .before .before .if1 .left)) in
     let l = on-feeder _ _ (sym (c .before .before .before .before .sender-number .ensures) ∙ c .if5 .left) in
     let h = sound-has _ t .range .posts-high in
     (t, l, omega arith)
 
 returns : tie.Need-returns
 unfolding receiveRows
-returns c = refuses (c .not-taken .ensures) (λ e. omega arith) (on _ _ _ (ap not (sym (c .before .before .before .checked .ensures .holds)) ∙ c .before .if1 .taken) refl)
+returns c = refuses (c .not-taken .ensures) (λ e. omega arith) (on _ _ _ (ap not (sym (c .before .before .checked .ensures .holds)) ∙ c .before .if1 .taken) refl)
 
 returns-2 : tie.Need-returns-2
 unfolding receiveRows receiveTests
@@ -52,7 +52,7 @@ array-read-turn-number : tie.Need-array-read-turn-number
 array-read-turn-number c = known (c .before .before) .2
 
 turn-number-requires : tie.Need-turn-number-requires
-turn-number-requires c κs = let k = known (c .before .before) in (k .0, k .1, c .before .before .before .before .before .before .before .before .before .before .before .before .before .before .checked .ensures .counts (not-false _ (c .before .before .before .before .before .before .before .before .before .before .before .before .if1 .left)) _ (k .2))
+turn-number-requires c κs = let k = known (c .before .before) in (k .0, k .1, c .before .before .before .before .before .before .before .before .before .before .before .before .before .checked .ensures .counts (not-false _ (c .before .before .before .before .before .before .before .before .before .before .before .before .if1 .left)) _ (k .2))
 
 returns-6 : tie.Need-returns-6
 returns-6 c =
