@@ -15,7 +15,8 @@ use Rattle.laws.proofs.LeadingLaws.{under, leftOf, leading-keep, left-keep}
 use Rattle.frame.specs.declared.Message.{Message}
 use Rattle.frame.specs.Message.{isTake, isReturn, lastCounter, stampOf, stamp}
 use Rattle.calls.specs.declared.Start.{Start}
-use Rattle.queue.specs.Queue.{Queue, clock, last, lastStamp, heard, settled, waiting, number, room, free, latest, phase, order}
+use Rattle.queue.specs.Queue.{Queue, clock, last, lastStamp, floorOf, heard, settled, waiting, number, room, free, latest, phase, order}
+use Rattle.queue.proofs.Floors.{heard-floor}
 use Rattle.queue.proofs.Good.{Sorted}
 use Rattle.queue.proofs.Grow.{heard-grows, number-stays, free-grows}
 use Rattle.queue.proofs.Granted.{in-takes}
@@ -29,7 +30,7 @@ use Rattle.post.proofs.Own.Messages.{ownNumber-none}
 use Rattle.post.proofs.Own.Takes.{Only, number-of-own}
 use Rattle.beside.specs.Image.{lasts, image}
 use Rattle.beside.proofs.Listed.{listFrom-at}
-use Rattle.beside.proofs.ImageParts.{floorOf, in-slots, heard-floor}
+use Rattle.beside.proofs.ImageParts.{in-slots}
 
 -- what q counted, with the clock and the last counters of a later queue and with v in the slots
 abbrev pub unsettled : Start → Queue → Queue → List Message → ℕ → ℕ → Post

@@ -1,5 +1,4 @@
--- The record of a queue, part by part: last counters, what waits, the floor. And what is settled is what is at or below the floor.
--- Assumes nothing.
+-- The record of a queue, part by part: last counters, what waits, the floor, and what the table sees. Assumes nothing.
 use mathlib.Core.Path.{_≡_, refl, sym, ap, _∙_}
 use mathlib.Core.Logic.{_↔_}
 use mathlib.Core.List.{List}
@@ -15,7 +14,7 @@ use Rattle.laws.proofs.LeastLaws.{least-le, le-least, least-cong}
 use Rattle.frame.specs.declared.Message.{Message}
 use Rattle.frame.specs.Message.{blank, lastCounter, stampOf, stamp, by}
 use Rattle.calls.specs.declared.Start.{Start}
-use Rattle.queue.specs.Queue.{Queue, clock, last, lastStamp, heard, waiting, phase}
+use Rattle.queue.specs.Queue.{Queue, clock, last, lastStamp, floorOf, waiting, phase}
 use Rattle.queue.specs.Calls.{view}
 use Rattle.queue.proofs.Good.{Sorted, le-clock}
 use Rattle.queue.proofs.Heard.{heard-at, at-heard}
@@ -24,10 +23,6 @@ use Rattle.post.specs.Record.{lastOf, waitingOf, floor, inSlots}
 use Rattle.post.specs.Calls.{viewOf}
 use Rattle.beside.specs.Image.{listFrom, image}
 use Rattle.beside.proofs.Listed.{length-listFrom, listFrom-at}
-
--- the least last stamp of the other posts
-abbrev pub floorOf : Start → Queue → ℕ
-floorOf st q = leastTo (st .posts) (st .own) (2 ^ 40) (λ r. lastStamp r q)
 
 -- messages in slots come out again
 pub in-slots : (ms : List Message) → take (length ms) (inSlots ms) ≡ ms
@@ -65,13 +60,3 @@ module _ (st : Start) (q : Queue) where
       last = λ r. image-last r i;
       waits = λ r. many (by r) (image-waiting i);
     }
-
-    -- settled is at or below the floor
-    pub heard-floor : clock q ≤ lastCounter → (m : Message) → In m q → T (heard st q m) ↔ (stamp m ≤ floorOf st q)
-    heard-floor w m i =
-        let a = le-clock q m i in
-        let b = g .proper m i .sender in
-        let c = g .fit .few in (
-          λ h. le-least (st .own) (2 ^ 40) (λ r. lastStamp r q) (st .posts) (stamp m) (omega arith) (heard-at st q m h),
-          λ h. at-heard st q m (λ r l d. let e = least-le (st .own) (2 ^ 40) (λ x. lastStamp x q) (st .posts) r l d in omega arith),
-        )

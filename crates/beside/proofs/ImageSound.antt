@@ -17,7 +17,8 @@ use Rattle.laws.proofs.CountLaws.{length-none}
 use Rattle.frame.specs.declared.Message.{Message}
 use Rattle.frame.specs.Message.{blank, isTake, isReturn, stamp, by, ownTake, ownReturn}
 use Rattle.calls.specs.declared.Start.{Start}
-use Rattle.queue.specs.Queue.{Queue, clock, last, heard, settled, waiting, takes, number, room, free, latest, phase, order}
+use Rattle.queue.specs.Queue.{Queue, clock, last, floorOf, heard, settled, waiting, takes, number, room, free, latest, phase, order}
+use Rattle.queue.proofs.Floors.{heard-floor}
 use Rattle.queue.proofs.Good.{Sorted, le-last}
 use Rattle.queue.proofs.Heard.{at-heard}
 use Rattle.queue.proofs.Granted.{latest-most, latest-in}
@@ -33,7 +34,7 @@ use Rattle.calls.proofs.Ranges.{Range}
 use Rattle.post.proofs.Sound.Passes.{sound-passes}
 use Rattle.post.proofs.Own.Takes.{end-of-own}
 use Rattle.beside.specs.Image.{image}
-use Rattle.beside.proofs.ImageParts.{floorOf, image-waiting, image-last, image-floor, heard-floor}
+use Rattle.beside.proofs.ImageParts.{image-waiting, image-last, image-floor}
 
 -- ---- the rules on the own messages and on the order number, by phase
 

@@ -1,11 +1,11 @@
 -- Document 01's nights P1 to P10: for each, the calls at one post, every reply in full, and what the post has at the end.
 -- `proofs/NightsHold` reckons all of them through, over the short record and over the full queue.
-use Rattle.laws.specs.{Words.{Bool, true, false, List, [], _∷_, _++_, map, _≡_, ℕ, _^_, pos, negsuc}, Lists.{many}, Below.{leastTo}}
+use Rattle.laws.specs.{Words.{Bool, true, false, List, [], _∷_, _++_, map, _≡_, ℕ, _^_, pos, negsuc}, Lists.{many}}
 use Rattle.frame.specs.{declared.Message.{Message}, Message.{msg, takeKind, returnKind, ackKind, isTake, isReturn, stampOf}, Frame.{frame}}
 use Rattle.calls.specs.{declared.Start.{Start}, Start.{starting}, Own.{taking, returning}}
 use Rattle.calls.specs.Replies.{Call, own-call, receive-call, value-call, missing-call, Reply, told, worth, lacking, refusing, after, replies}
 use Rattle.post.specs.Record.{lastOf, waitingOf, floor}
-use Rattle.queue.specs.{Queue.{clock, last, lastStamp, settled, waiting, phase, order}, Calls.{onQueue}, Feeder.{buffer}}
+use Rattle.queue.specs.{Queue.{clock, last, floorOf, settled, waiting, phase, order}, Calls.{onQueue}, Feeder.{buffer}}
 use Rattle.beside.specs.{Image.{listFrom}, OnRecord.{onRecord, startedPost}}
 
 -- what a post has at the end; last is by post from 0, floor is a stamp as one number
@@ -200,7 +200,7 @@ onTheRecord n =
       closing = closing (p .clock) (listFrom 0 (n .start .posts) (lastOf p)) (floor p) (waitingOf p) (p .takes) (p .returns) (p .phase) (p .order);
     }
 
--- over the full queue: worked out from its messages; the floor is the least last stamp of the other posts
+-- over the full queue: worked out from its messages
 unfoldable pub onTheQueue : Night → Shown
 onTheQueue n =
     let st = n .start in
@@ -210,7 +210,7 @@ onTheQueue n =
       closing = record {
         clock = clock q;
         last = listFrom 0 (st .posts) (λ r. last r q);
-        floor = leastTo (st .posts) (st .own) (2 ^ 40) (λ r. lastStamp r q);
+        floor = floorOf st q;
         waiting = waiting st q;
         takes = many isTake (settled st q);
         returns = many isReturn (settled st q);

@@ -8,7 +8,7 @@ use lib.Dec.{T, eqb, eqb→eq, eqb-refl}
 use Rattle.laws.specs.Lists.{In, Begins, Rising}
 use Rattle.laws.proofs.Tests.{test, neqb→ne}
 use Rattle.laws.proofs.ListLaws.{in-append, in-keep, keep-in, begins-in}
-use Rattle.laws.proofs.RisingLaws.{rising-seam, rising-keep, one-begins, top-lt}
+use Rattle.laws.proofs.RisingLaws.{rising-unique, rising-seam, rising-keep, one-begins, top-lt}
 use Rattle.frame.specs.declared.Message.{Message}
 use Rattle.frame.specs.Message.{stamp, by}
 use Rattle.queue.specs.Queue.{last, lastStamp, heard, settled}
@@ -32,6 +32,17 @@ module _ (L : Line) (s : Feeder) (w : Sound L s) where
       (λ n.
       let b = w .faithful p q (w .good q l .sorted .proper m i .sender) l (neqb→ne p q n) in
       keep-in (by p) m (s p) (begins-in m (had s p q) (sent s p) b (in-keep (by p) m (s q) i (eqb-refl p))) .0)
+
+  -- both were sent by the post whose number their stamp has
+  pub one-stamp : (p q : ℕ) → p < L .posts → q < L .posts → (a b : Message) → In a (s p) → In b (s q) → stamp a ≡ stamp b → a ≡ b
+  one-stamp p q lp lq a b i j e =
+      let r = a .sender in
+      let la = w .good p lp .sorted .proper a i .sender in
+      let lb = w .good q lq .sorted .proper b j .sender in
+      let g = w .good r la .sorted in
+      let few = g .fit .few in
+      let o : r ≡ b .sender = omega arith in
+      rising-unique stamp (s r) a b (g .rising) (was-sent p lp a i) (subst (λ (x : ℕ). In b (s x)) (sym o) (was-sent q lq b j)) e
 
   -- what was sent with a stamp up to the last of its sender has come
   has-come : (q : ℕ) → q < L .posts → (m : Message) → m .sender < L .posts → (m .sender ≡ q → ⊥) → In m (s (m .sender))

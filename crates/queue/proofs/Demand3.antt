@@ -8,7 +8,7 @@ use Rattle.queue.specs.Feeder.{Line, start, Feeder, fresh, run}
 use Rattle.queue.specs.Demand3.{Faithful, Demand3, Strong, Runs, Marks}
 use Rattle.queue.proofs.Good.{good-empty}
 use Rattle.queue.proofs.Changes.{after-calls}
-use Rattle.queue.proofs.Agree.{Sound, one-order}
+use Rattle.queue.proofs.Agree.{Sound, one-stamp, one-order}
 use Rattle.queue.proofs.Places.{never-more}
 use Rattle.queue.proofs.Cleared.{all-settled, exactly}
 use Rattle.queue.proofs.Marks.{grants-marked}
@@ -24,6 +24,8 @@ demand3 L s k f =
       never-more-hold = never-more-hold L s (λ p l. k p l .balanced) (never-more L s w);
       all-settled = all-settled L s w;
       exactly = exactly L s w;
+      senders = λ q l m i. w .good q l .sorted .proper m i .sender;
+      one-stamp = one-stamp L s w;
     }
 
 pub strong : Strong

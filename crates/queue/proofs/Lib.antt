@@ -4,6 +4,7 @@ pub mod Changes  -- what a call does to a queue; from here on no byte and no row
 pub mod Parts  -- .. to what a test keeps of it
 pub mod Clocks  -- .. to its clock and last counters
 pub mod Heard  -- heard and settled, by what they say of a message
+pub mod Floors  -- .. and what is at or below the floor
 pub mod Grow  -- what is settled stays, and so do numbers and grants
 pub mod Granted  -- the granted takes, the latest own message, the phase
 pub mod Phases  -- phase and order number, case by case
@@ -19,3 +20,4 @@ mod Places  -- second part: never more than the places
 mod Cleared  -- third part: once all is accepted
 pub mod Runs  -- runs of takes, returns and deliveries
 pub mod Demand3  -- the proofs of specs/Demand3
+mod Night  -- the proof of specs/Night

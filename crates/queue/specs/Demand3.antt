@@ -1,8 +1,8 @@
 -- Demand 3 over full queues: what is stated. `proofs/Demand3` proves it.
-use Rattle.laws.specs.{Words.{Bool, false, cond, List, [], _∷_, _++_, _≡_, _⊎_, _↔_, ℕ, _+_, _≤_, _<_}, Lists.{In, keep, Begins}}
-use Rattle.frame.specs.{declared.Message.{Message}, Message.{counted}}
+use Rattle.laws.specs.{Words.{Bool, false, cond, List, [], _∷_, _++_, _≡_, _⊎_, _↔_, ℕ, _+_, _≤_, _<_}, Lists.{In, keep, Begins, upto}}
+use Rattle.frame.specs.{declared.Message.{Message}, Message.{counted, stamp}}
 use Rattle.calls.specs.{declared.Start.{Start}, Replies.{Call, Reply, told, worth, lacking, after}}
-use Rattle.queue.specs.{Queue.{Queue, settled, takes, number, grants, latest}, Calls.{onQueue}}
+use Rattle.queue.specs.{Queue.{Queue, settled, takes, grants, latest}, Calls.{onQueue}}
 use Rattle.queue.specs.Feeder.{Line, start, Feeder, fresh, sent, had, Act, run, returnsSent, granted, holding}
 
 -- each post's queue was made by calls at that post, with any frames and buffers
@@ -28,7 +28,10 @@ pub record Demand3 (L : Line) (s : Feeder) : Type 0 where
   pub all-settled : Cleared L s → (p q : ℕ) → p < L .posts → q < L .posts → settled (start L p) (s p) ≡ keep counted (s q)
   -- .. and the granted takes are exactly those whose number among the settled takes is at most the places plus the returns
   pub exactly : Cleared L s → (p q : ℕ) → p < L .posts → q < L .posts → (t : Message)
-      → In t (grants (start L p) (s p)) ↔ (In t (takes (start L q) (s q)) × (t .sender ≡ p) × (number (start L q) (s q) t ≤ L .places + returnsSent L s))
+      → In t (grants (start L p) (s p)) ↔ (In t (takes (start L q) (s q)) × (t .sender ≡ p) × (upto stamp (takes (start L q) (s q)) t ≤ L .places + returnsSent L s))
+  -- the sender of a message is a post of the feeder, so what is granted is granted somewhere; and no two messages share a stamp
+  pub senders : (q : ℕ) → q < L .posts → (m : Message) → In m (s q) → m .sender < L .posts
+  pub one-stamp : (p q : ℕ) → p < L .posts → q < L .posts → (a b : Message) → In a (s p) → In b (s q) → stamp a ≡ stamp b → a ≡ b
 
 -- strong: whatever calls were made, the one hypothesis is about now
 abbrev pub Strong : Type 0

@@ -1,5 +1,5 @@
 -- A post by its full queue: every message that it sent or accepted, sorted by stamp. All else is worked out from that list.
-use Rattle.laws.specs.{Words.{Bool, not, cond, _&&_, _||_, List, ℕ, _+_, leb, ltb, eqb, ℤ, pos, _-ℤ_, length}, Lists.{keep, many, final, upto, top}, Below.{allTo}}
+use Rattle.laws.specs.{Words.{Bool, not, cond, _&&_, _||_, List, ℕ, _+_, _^_, leb, ltb, eqb, ℤ, pos, _-ℤ_, length}, Lists.{keep, many, final, upto, top}, Below.{allTo, leastTo}}
 use Rattle.frame.specs.{declared.Message.{Message}, Message.{msg, returnKind, isTake, isReturn, counted, stampOf, stamp, by}}
 use Rattle.calls.specs.declared.Start.{Start}
 
@@ -17,7 +17,11 @@ last r q = top (λ m. m .counter) (keep (by r) q)
 abbrev pub lastStamp : ℕ → Queue → ℕ
 lastStamp r q = stampOf (last r q) r
 
--- at or below the floor: the last stamp of every other post is at or above it
+-- the floor: the least last stamp of the other posts; above every stamp where there is none
+abbrev pub floorOf : Start → Queue → ℕ
+floorOf st q = leastTo (st .posts) (st .own) (2 ^ 40) (λ r. lastStamp r q)
+
+-- at or below the floor (`heard-floor`): the last stamp of every other post is at or above it
 unfoldable pub heard : Start → Queue → Message → Bool
 heard st q m = allTo (st .posts) (λ r. eqb r (st .own) || leb (stamp m) (lastStamp r q))
 
