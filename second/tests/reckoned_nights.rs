@@ -89,6 +89,7 @@ fn p6() -> (Queue, Queue) {
     assert_eq!((phase(&post0), post0.order()), (0, 0));
     assert_eq!(receive(&mut post1, ACK, 2, 3), QUIET);
     assert_eq!(receive(&mut post1, RETURN, 0, 4), wrote(ACK, 1, 5));
+    assert_eq!(receive(&mut post2, ACK, 0, 2), QUIET);
     assert_eq!(receive(&mut post2, RETURN, 0, 4), wrote(ACK, 2, 5));
     (post1, post2)
 }

@@ -6,3 +6,4 @@ pub mod Bench  -- the bench, byte by byte
 pub mod Output  -- the whole output for a whole input
 pub mod Session  -- feeding piece by piece
 pub mod Inside  -- what functions inside the crate promise each other
+pub mod Unique  -- two results that meet a promise are equal

@@ -10,6 +10,7 @@ use Rattle.calls.specs.Replies.{after, replies}
 use Rattle.calls.specs.Start.{inRange}
 use Rattle.calls.specs.View.{acks}
 use Rattle.queue.specs.Calls as queue
+use Rattle.queue.specs.Feeder.{pending, comesTo, run}
 use Rattle.post.specs.Record.{floor, fresh, remade}
 use Rattle.post.specs.Sound.{absentSilent, clockAbove, fair, noneAlone, isBlank, few, endKind, ownFits, ownFew, sumFits, orderFits}
 use Rattle.post.specs.Sound.{numberRules, slotRules, countRules, sound}
@@ -18,7 +19,7 @@ use Rattle.post.specs.Settle as post-settle
 use Rattle.post.specs.Calls as post
 use Rattle.beside.specs.Image.{listFrom}
 use Rattle.beside.specs.OnRecord.{onRecord}
-use Rattle.beside.specs.Nights.{nights, onTheRecord, onTheQueue, NightsHold}
+use Rattle.beside.specs.Nights.{nights, onTheRecord, onTheQueue, NightsHold, ranTo, OneRun}
 
 pub nights-hold : NightsHold
 unfolding nights onTheRecord onTheQueue onRecord after replies listFrom
@@ -31,3 +32,10 @@ unfolding nights onTheRecord onTheQueue onRecord after replies listFrom
     post.started post.spoken post.came post.ownRows post.receiveRows post.heardFrom
     post.valued post.ownStamp post.lacks post.missed
 nights-hold = refl
+
+pub one-run : OneRun
+unfolding ranTo run comesTo pending after
+    keep final put upto top allTo unless frame fieldsOf formRows phaseTests senderTests turnTests receiveTests
+    clock last heard settled waiting room free latest phase
+    acks queue.saying queue.say queue.accept queue.said queue.received queue.onQueue
+one-run = refl

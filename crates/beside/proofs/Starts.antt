@@ -1,6 +1,6 @@
 -- A start gives the record of the empty queue, or one that refuses every call where its numbers are out of range. Assumes nothing.
-use mathlib.Core.List.{[]}
-use mathlib.Core.Path.{_≡_, refl, sym, ap, subst}
+use mathlib.Core.List.{List, [], _∷_, map}
+use mathlib.Core.Path.{_≡_, refl, sym, ap, ap₂, _∙_, subst}
 use mathlib.Core.Bool.{Bool, cond}
 use lib.Ieee.Bits.{is-true, is-false}
 use Rattle.laws.specs.Ladder.{unless}
@@ -8,7 +8,7 @@ use Rattle.laws.specs.Lists.{keep, final, top}
 use Rattle.calls.specs.declared.Start.{Start}
 use Rattle.calls.specs.Start.{starting, inRange}
 use Rattle.queue.specs.Queue.{clock, last, settled, waiting, latest, phase, order}
-use Rattle.calls.specs.Replies.{Call, own-call, receive-call, value-call, missing-call}
+use Rattle.calls.specs.Replies.{Call, own-call, receive-call, value-call, missing-call, after, replies}
 use Rattle.queue.proofs.Fitting.{Fitting, fitting-empty}
 use Rattle.post.specs.declared.Post.{Post}
 use Rattle.post.specs.declared.Started.{Started}
@@ -45,8 +45,19 @@ zero-refuses (receive-call s lent) = (refl, refl)
 zero-refuses value-call = (refl, refl)
 zero-refuses missing-call = (refl, refl)
 
+-- call after call
+zero-stays : (calls : List Call) → (replies onRecord zero calls ≡ map refusedOne calls) × (after onRecord zero calls ≡ zero)
+unfolding replies after
+zero-stays [] = (refl, refl)
+zero-stays (c ∷ calls) =
+    let one = zero-refuses c in
+    let rest = zero-stays calls in (
+      ap₂ _∷_ (one .0) (ap (λ (p : Post). replies onRecord p calls) (one .1) ∙ rest .0),
+      ap (λ (p : Post). after onRecord p calls) (one .1) ∙ rest .1,
+    )
+
 pub refuses : RefusedStart
 unfolding post.started
-refuses st n c =
+refuses st n calls =
     let e : startedPost st ≡ zero = ap (either st) (is-false (inRange st) n) in
-    subst (λ (p : Post). (onRecord p c .reply ≡ refusedOne c) × (onRecord p c .next ≡ p)) (sym e) (zero-refuses c)
+    subst (λ (p : Post). (replies onRecord p calls ≡ map refusedOne calls) × (after onRecord p calls ≡ p)) (sym e) (zero-stays calls)

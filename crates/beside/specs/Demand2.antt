@@ -1,5 +1,5 @@
 -- Demand 2: the short record answers as the full queue does. What is stated; `proofs/` proves it.
-use Rattle.laws.specs.{Words.{_≡_, not, List, [], _∷_, T, pos}, Big.{Bytes}}
+use Rattle.laws.specs.{Words.{_≡_, not, List, [], _∷_, map, T, pos}, Big.{Bytes}}
 use Rattle.calls.specs.{declared.Start.{Start}, Start.{inRange}}
 use Rattle.calls.specs.Replies.{Call, own-call, receive-call, value-call, missing-call, Reply, worth, lacking, refusing, after, replies}
 use Rattle.queue.specs.{Queue.{phase, order}, Calls.{onQueue}}
@@ -40,5 +40,5 @@ refusedOne missing-call = lacking 1 0 0
 
 -- a refused start has no queue: every later call gives 1 and changes nothing
 abbrev pub RefusedStart : Type 0
-RefusedStart = (st : Start) → T (not (inRange st)) → (c : Call)
-    → (onRecord (startedPost st) c .reply ≡ refusedOne c) × (onRecord (startedPost st) c .next ≡ startedPost st)
+RefusedStart = (st : Start) → T (not (inRange st)) → (calls : List Call)
+    → (replies onRecord (startedPost st) calls ≡ map refusedOne calls) × (after onRecord (startedPost st) calls ≡ startedPost st)

@@ -5,7 +5,7 @@ use Rattle.frame.specs.{declared.Message.{Message}, Message.{msg, takeKind, ret
 use Rattle.calls.specs.{declared.Start.{Start}, Start.{starting}, Own.{taking, returning}}
 use Rattle.calls.specs.Replies.{Call, own-call, receive-call, value-call, missing-call, Reply, told, worth, lacking, refusing, after, replies}
 use Rattle.post.specs.Record.{lastOf, waitingOf, floor}
-use Rattle.queue.specs.{Queue.{clock, last, floorOf, settled, waiting, phase, order}, Calls.{onQueue}, Feeder.{buffer}}
+use Rattle.queue.specs.{Queue.{Queue, clock, last, floorOf, settled, waiting, phase, order}, Calls.{onQueue}, Feeder.{Line, fresh, Act, own-at, deliver, buffer, run}}
 use Rattle.beside.specs.{Image.{listFrom}, OnRecord.{onRecord, startedPost}}
 
 -- what a post has at the end; last is by post from 0, floor is a stamp as one number
@@ -132,11 +132,11 @@ P6-at-post-0 =
     night (post-of 0 3 1) (P5-calls ++ (receives (ack 3 2) ∷ returns ∷ [])) (P5-answers ++ (done ∷ writes (return 4 0) ∷ []))
     (closing 4 (4 ∷ 1 ∷ 3 ∷ []) (stampOf 1 1) (return 4 0 ∷ []) 2 0 0 0)
 
--- .. while post 2 acknowledges the takes by (2,2) and (3,2), and the return by (5,2)
+-- .. while post 2 acknowledges the takes by (2,2) and (3,2), hears (2,0), and acknowledges the return by (5,2)
 abbrev P6-at-post-2 : Night
 P6-at-post-2 =
-    night (post-of 2 3 1) (receives (take 1 0) ∷ receives (take 1 1) ∷ receives (return 4 0) ∷ [])
-    (writes (ack 2 2) ∷ writes (ack 3 2) ∷ writes (ack 5 2) ∷ [])
+    night (post-of 2 3 1) (receives (take 1 0) ∷ receives (take 1 1) ∷ receives (ack 2 0) ∷ receives (return 4 0) ∷ [])
+    (writes (ack 2 2) ∷ writes (ack 3 2) ∷ done ∷ writes (ack 5 2) ∷ [])
     (closing 5 (4 ∷ 1 ∷ 5 ∷ []) (stampOf 1 1) (return 4 0 ∷ []) 2 0 0 0)
 
 -- P6: in the same run, later, post 1, in phase 2 with number 2, has last counters 4 (a return from post 0) and 3 (post 2): no grant.
@@ -229,3 +229,34 @@ expected n = let s : Shown = record { answers = n .answers; closing = n .closing
 -- every night comes to what it says, over the record and over the queue
 abbrev pub NightsHold : Type 0
 NightsHold = map reckoned nights ≡ map expected nights
+
+-- ---- P5 to P7 are one run of demand 3's sort
+
+abbrev three : Line
+three = record { posts = 3; feeder = 7; places = 1 }
+
+abbrev P5-acts : List Act
+P5-acts = own-at taking 0 ∷ own-at taking 1 ∷ deliver 0 2 ∷ deliver 1 2 ∷ deliver 1 0 ∷ deliver 2 0 ∷ []
+
+-- the takes reach post 1 and its take is numbered; post 0 returns, and the return comes to post 1 and, after (2,0), to post 2
+abbrev P6-acts : List Act
+P6-acts =
+    P5-acts
+    ++ (deliver 0 1 ∷ deliver 0 1 ∷ deliver 2 1 ∷ deliver 2 1 ∷ deliver 2 0 ∷ own-at returning 0 ∷ deliver 0 1 ∷ deliver 0 2 ∷ deliver 0 2 ∷ [])
+
+abbrev P7-acts : List Act
+P7-acts = P6-acts ++ (deliver 2 1 ∷ [])
+
+-- the queue that a night's calls make at its post
+abbrev queueOf : Night → Queue
+queueOf n = after (onQueue (n .start)) [] (n .calls)
+
+unfoldable pub ranTo : List Queue
+ranTo =
+    run three fresh P5-acts 0
+    ∷ run three fresh P6-acts 0 ∷ run three fresh P6-acts 1 ∷ run three fresh P6-acts 2
+    ∷ run three fresh P7-acts 1 ∷ []
+
+-- at each post the run comes to what the night says of it
+abbrev pub OneRun : Type 0
+OneRun = ranTo ≡ queueOf P5 ∷ queueOf P6-at-post-0 ∷ queueOf P6 ∷ queueOf P6-at-post-2 ∷ queueOf P7 ∷ []

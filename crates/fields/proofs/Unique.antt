@@ -1,11 +1,7 @@
--- For each public function: two results that meet its promise are equal. Assumes nothing.
-use Prim.Native.Nat.{ℕ}
-use mathlib.Core.Path.{_≡_, _∙_, sym}
-use mathlib.Core.List.{List}
+-- Each promise is an equation with a definition. Assumes nothing.
+use Rattle.laws.proofs.OneLaws.{one}
 use Rattle.fields.specs.Field.{fieldAt, withField}
+use Rattle.fields.specs.Unique.{Unique}
 
-pub load-unique : (s : List ℕ) (at width a b : ℕ) → a ≡ fieldAt s at width → b ≡ fieldAt s at width → a ≡ b
-load-unique s at width a b p q = p ∙ sym q
-
-pub store-unique : (s : List ℕ) (at width n : ℕ) (a b : List ℕ) → a ≡ withField s at width n → b ≡ withField s at width n → a ≡ b
-store-unique s at width n a b p q = p ∙ sym q
+pub unique : Unique
+unique = record { load = λ s at width. one (fieldAt s at width); store = λ s at width n. one (withField s at width n) }

@@ -10,7 +10,7 @@ use Rattle.laws.proofs.BigLaws.{fields-back, fields-fit}
 use Rattle.frame.specs.declared.Message.{Message}
 use Rattle.frame.specs.declared.Fields.{Fields}
 use Rattle.frame.specs.Frame.{mark, widths, size, frame, fieldsFrom, fieldsOf}
-use Rattle.frame.proofs.Frames.{InWidth}
+use Rattle.frame.specs.Demand2.{InWidth}
 
 pub frame-fields : (f : ℕ) (m : Message) → InWidth f m → fieldsOf (frame f m) ≡ record { mark = mark; version = 1; feeder = f; message = m }
 unfolding fieldsOf frame

@@ -1,4 +1,4 @@
--- A frame has one meaning, and a message has one frame. The statements, then their proofs. Assumes nothing.
+-- A frame has one meaning, and a message has one frame: the proofs of `specs/Demand2`. Assumes nothing.
 use Prim.Native.Nat.{ℕ, _<_, _^_}
 use mathlib.Core.Path.{_≡_, refl, ap, _∙_, sym}
 use mathlib.Core.Bool.{Bool, true, false, cond}
@@ -13,33 +13,9 @@ use Rattle.laws.proofs.BigLaws.{fields-back, only-fields}
 use Rattle.laws.proofs.Ladders.{on, quiet, unrefused}
 use Rattle.frame.specs.declared.Message.{Message}
 use Rattle.frame.specs.declared.Fields.{Fields}
+use Rattle.frame.specs.Demand2.{InWidth, WrittenReadsBack, AcceptedIsFrame, OneFrame}
 use Rattle.frame.specs.Message.{blank}
 use Rattle.frame.specs.Frame.{mark, widths, size, frame, fieldsFrom, fieldsOf, messageRows, readRows, reading, readFrame, writeRows, writeNo, bytesAfter}
-
--- the numbers have the widths of the code's arguments
-pub record InWidth (f : ℕ) (m : Message) : Type 0 where
-  pub feeder : f < 256
-  pub kind : m .kind < 256
-  pub sender : m .sender < 256
-  pub counter : m .counter < 256 ^ 4
-
--- what is written reads back
-abbrev pub WrittenReadsBack : Type 0
-WrittenReadsBack =
-    (old : List ℕ) (f : ℕ) (m : Message) → InWidth f m → writeNo old m ≡ 0
-    → readFrame (take size (bytesAfter old f m)) ≡ record { number = 0; feeder = f; message = m }
-
--- an accepted frame is the frame of what it reads as, and that can be written
-abbrev pub AcceptedIsFrame : Type 0
-AcceptedIsFrame =
-    (s : List ℕ) → Bytes s → readFrame s .number ≡ 0
-    → (s ≡ frame (readFrame s .feeder) (readFrame s .message)) × (refusal (writeRows size (readFrame s .message)) ≡ 0)
-
--- so two accepted frames that read alike are the same bytes
-abbrev pub OneFrame : Type 0
-OneFrame = (s t : List ℕ) → Bytes s → Bytes t → readFrame s .number ≡ 0 → readFrame s ≡ readFrame t → s ≡ t
-
--- ---- proofs
 
 back : (f : ℕ) (m : Message) → InWidth f m → refusal (messageRows m) ≡ 0 → readFrame (frame f m) ≡ record { number = 0; feeder = f; message = m }
 unfolding readFrame readRows fieldsOf frame

@@ -20,3 +20,4 @@ pub mod LeadingLaws  -- what comes before the first key above a number
 pub mod ScanLaws  -- one turn of a loop
 pub mod ShiftLaws  -- arrays shifted one store a turn
 pub mod SearchLaws  -- the first that passes
+pub mod OneLaws  -- what equals a definition is one

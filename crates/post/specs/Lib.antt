@@ -4,3 +4,4 @@ pub mod Settle  -- what settles, and the grant rule
 pub mod Sound  -- document 01's rules, one by one
 pub mod Calls  -- every call, refused or not
 pub mod Inside  -- what functions inside the crate promise each other
+pub mod Unique  -- two results that meet a promise are equal

@@ -6,7 +6,7 @@ use frame::Message;
 ghost use mathlib.Core.Path.{_≡_};
 ghost use mathlib.Core.Bool.{_&&_, _||_};
 ghost use Prim.Native.Nat.{_<_};
-ghost use lib.Dec.{T, leb};
+ghost use lib.Dec.{T, leb, eqb};
 ghost use Rattle.laws.specs.Ladder.{refusal};
 ghost use Rattle.laws.specs.Lists.{many};
 ghost use Rattle.frame.specs.Message.{blank, lastCounter, counted, by};
@@ -43,22 +43,31 @@ fn is_fifth(m: Message, count: u8) -> bool
 }
 
 impl Post {
+    // A sender that is the post itself, or no post of the feeder.
+    fn is_stranger(self, m: Message) -> bool
+        ensures { λ r. ⌜ r ≡ (eqb (m .sender) (self .own) || leb (self .posts) (m .sender)) ⌝ }
+    {
+        if m.sender == self.own {
+            return true;
+        }
+        self.posts <= m.sender
+    }
+
     fn sender_number(self, m: Message) -> u8
         ensures { λ r. ⌜ r ≡ refusal (senderTests (viewOf self) m) ⌝ }
     {
+        let stranger = self.is_stranger(m);
+        let zero = m.counter == 0;
         if m.kind < frame::TAKE {
             return 7;
         }
         if frame::ACK < m.kind {
             return 7;
         }
-        if m.sender == self.own {
+        if stranger {
             return 8;
         }
-        if self.posts <= m.sender {
-            return 8;
-        }
-        if m.counter == 0 {
+        if zero {
             return 9;
         }
         0

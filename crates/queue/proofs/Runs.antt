@@ -15,7 +15,7 @@ use Rattle.frame.specs.declared.Message.{Message}
 use Rattle.frame.specs.declared.Fields.{Fields}
 use Rattle.frame.specs.Message.{ackKind, lastCounter, stamp, by}
 use Rattle.frame.specs.Frame.{frame, fieldsOf}
-use Rattle.frame.proofs.Frames.{InWidth}
+use Rattle.frame.specs.Demand2.{InWidth}
 use Rattle.frame.proofs.FrameFields.{frame-fields}
 use Rattle.calls.specs.Own.{rowOf}
 use Rattle.calls.specs.declared.Start.{Start}

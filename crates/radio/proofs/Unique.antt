@@ -1,12 +1,8 @@
--- Two results of `fpm_read` that meet its promise are equal. Of `fpm_write`, whose promise is frame writing's, that is `write-unique`
--- of the crate frame. Assumes nothing.
-use Prim.Native.Nat.{ℕ}
-use mathlib.Core.Path.{_≡_, _∙_, sym}
-use mathlib.Core.List.{List}
-use Rattle.radio.specs.Radio.{Read}
+-- Each part of the promise is an equation. Assumes nothing.
+use mathlib.Core.Path.{_∙_, sym}
+use Rattle.radio.specs.Radio.{ReadUnique}
 
-pub fpm-read-unique : (s : List ℕ) (n f k p c n′ f′ k′ p′ c′ : ℕ) → Read s n f k p c → Read s n′ f′ k′ p′ c′
-    → (n ≡ n′) × (f ≡ f′) × (k ≡ k′) × (p ≡ p′) × (c ≡ c′)
+pub fpm-read-unique : ReadUnique
 fpm-read-unique s n f k p c n′ f′ k′ p′ c′ x y = (
   x .gives ∙ sym (y .gives),
   x .feeder-left ∙ sym (y .feeder-left),

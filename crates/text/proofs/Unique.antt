@@ -1,18 +1,16 @@
--- For each public function: two results that meet its promise are equal, and so are the lent bytes after them. Assumes nothing.
+-- A text put from a place on leaves no choice. Assumes nothing.
 use Prim.Native.Nat.{ℕ}
-use mathlib.Core.Path.{_≡_, _∙_, sym}
+use mathlib.Core.Path.{_∙_, sym}
 use mathlib.Core.List.{List, [], _∷_}
-use Rattle.text.specs.Decimal.{decimal}
-use Rattle.text.specs.Puts.{Puts, fitting}
+use Rattle.laws.specs.One.{OneAfter}
+use Rattle.text.specs.{Decimal.{decimal}, Puts.{Puts, fitting}, Unique.{Unique}}
 
-puts-unique : (old a b text : List ℕ) (at i j : ℕ) → Puts old a at text i → Puts old b at text j → (i ≡ j) × (a ≡ b)
-puts-unique old a b text at i j p q = (p .next-place ∙ sym (q .next-place), p .bytes ∙ sym (q .bytes))
+puts-one : (old text : List ℕ) (at : ℕ) → OneAfter ℕ (λ r after. Puts old after at text r)
+puts-one old text at i j a b p q = (p .next-place ∙ sym (q .next-place), p .bytes ∙ sym (q .bytes))
 
-pub byte-unique : (old x y : List ℕ) (at b i j : ℕ) → Puts old x at (fitting old at (b ∷ [])) i → Puts old y at (fitting old at (b ∷ [])) j → (i ≡ j) × (x ≡ y)
-byte-unique old x y at b = puts-unique old x y (fitting old at (b ∷ [])) at
-
-pub word-unique : (old x y w : List ℕ) (at i j : ℕ) → Puts old x at (fitting old at w) i → Puts old y at (fitting old at w) j → (i ≡ j) × (x ≡ y)
-word-unique old x y w at = puts-unique old x y (fitting old at w) at
-
-pub number-unique : (old x y : List ℕ) (at n i j : ℕ) → Puts old x at (fitting old at (decimal n)) i → Puts old y at (fitting old at (decimal n)) j → (i ≡ j) × (x ≡ y)
-number-unique old x y at n = puts-unique old x y (fitting old at (decimal n)) at
+pub unique : Unique
+unique = record {
+  byte = λ old at b. puts-one old (fitting old at (b ∷ [])) at;
+  word = λ old w at. puts-one old (fitting old at w) at;
+  number = λ old at n. puts-one old (fitting old at (decimal n)) at;
+}
