@@ -1,6 +1,6 @@
 -- The whole output for a whole input, line by line.
-use Rattle.laws.specs.Words.{false, cond, List, [], _∷_, _++_, ℕ, _+_, ltb, eqb, length}
-use Rattle.bench.specs.{declared.Night.{Night}, declared.lines.Header.{Header}, declared.lines.Command.the-variants.{Unknown}, Text.{answerLine, badHeader}}
+use Rattle.laws.specs.Words.{false, cond, List, [], _∷_, _++_, ℕ, _+_, _<_, ltb, eqb, length}
+use Rattle.bench.specs.{declared.Night.{Night}, declared.lines.Header.{Header}, declared.lines.Command.{Command}, declared.lines.Command.the-variants.{Unknown}, Text.{answerLine, badHeader}}
 use Rattle.bench.specs.{Lines.{headerOf, commandOf}, Night.{begun, ran}, Bench.{closing}}
 
 -- what stands between LFs, after a piece that is read; a last piece counts if it has a byte
@@ -27,3 +27,12 @@ nightFrom (l ∷ ls) = nightOf (headerOf l) ls
 
 unfoldable pub output : List ℕ → List ℕ
 output input = nightFrom (linesFrom [] input)
+
+-- the night after commands
+unfoldable pub afterAll : Night → List Command → Night
+afterAll s [] = s
+afterAll s (c ∷ cs) = afterAll (ran s c .night) cs
+
+-- at each of 256 commands there is a place for what it may write, so no written message is dropped
+abbrev pub NoneDropped : Type 0
+NoneDropped = (posts places : ℕ) (cs : List Command) → length cs < 256 → afterAll (begun posts places) cs .count < 256
