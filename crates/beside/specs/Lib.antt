@@ -3,4 +3,5 @@ pub mod Image  -- the record that a queue comes to
 pub mod OnRecord  -- the calls over the record, told in the terms of both
 pub mod Demand2  -- the record answers as the queue does
 pub mod Records  -- demand 3 over records and bytes
+pub mod Demand3  -- demand 3 said of boards, with any calls
 pub mod Nights  -- document 01's nights P1 to P10
