@@ -4,24 +4,25 @@ use mathlib.Core.Bool.{Bool, not, and-false}
 use mathlib.Core.List.{List, []}
 use Prim.Native.Nat.{ℕ, suc, _+_, _≤_, _<_, max}
 use native.Mathlib.Omega.{arith}
-use lib.Dec.{T, not-T, eqb→eq}
+use lib.Dec.{T, leb, not-T, leb→le, eqb→eq}
 use Rattle.laws.specs.Below.{one?}
-use Rattle.laws.specs.Lists.{keep, many, put, top}
-use Rattle.laws.proofs.Tests.{test, cond-both, and-l}
+use Rattle.laws.specs.Lists.{In, keep, many, put, top}
+use Rattle.laws.proofs.Tests.{test, cond-both, and-l, and-r}
 use Rattle.laws.proofs.BelowLaws.{one-eqb}
 use Rattle.laws.proofs.CountLaws.{many-none, many-put}
 use Rattle.laws.proofs.Counting.{one-most, one-no, many-keep}
 use Rattle.frame.specs.declared.Message.{Message}
 use Rattle.frame.specs.Message.{msg, isReturn, counted, known, lastCounter, stamp, by, ownReturn}
 use Rattle.frame.specs.Frame.{fieldsOf}
+use Rattle.frame.proofs.Frames.{InWidth}
 use Rattle.calls.specs.Own.{taking, returning}
 use Rattle.calls.specs.declared.Start.{Start}
 use Rattle.queue.specs.Queue.{Queue, clock, heard, waiting, latest}
 use Rattle.calls.specs.Replies.{Call, own-call, receive-call, value-call, missing-call}
 use Rattle.calls.specs.View.{acks}
-use Rattle.queue.specs.Calls.{view, saying, say, accept}
-use Rattle.queue.proofs.Good.{Fit, New}
-use Rattle.queue.proofs.Changes.{Change, unchanged, spoke, accepted}
+use Rattle.queue.specs.Calls.{view, saying, say, accept, onQueue}
+use Rattle.queue.proofs.Good.{Fit, Proper, New, le-clock}
+use Rattle.queue.proofs.Changes.{Change, unchanged, spoke, accepted, change}
 use Rattle.queue.proofs.Granted.{grants-in, holding-latest}
 use Rattle.queue.proofs.Marks.{holds}
 use Rattle.queue.proofs.Holding.{Kept, kept-change, kept-empty}
@@ -39,6 +40,21 @@ pub record Fitting (st : Start) (q : Queue) : Type 0 where
 pub fitting-empty : (st : Start) → Fit st → Fitting st []
 unfolding keep waiting clock top
 fitting-empty st fit = record { kept = kept-empty st fit; few = λ r l d. omega arith; own = omega arith; width = omega arith }
+
+-- a proper message fits the bytes of its frame where its counter does
+pub proper-width : (st : Start) → st .posts ≤ 16 → st .feeder ≤ 255 → (m : Message) → Proper st m → m .counter ≤ lastCounter → InWidth (st .feeder) m
+proper-width st few f m p c =
+    let a = p .sender in
+    let k = leb→le (m .kind) 3 (and-r (leb 1 (m .kind)) (leb (m .kind) 3) (p .kind)) in
+    record { feeder = omega arith; kind = omega arith; sender = omega arith; counter = omega arith }
+
+-- so every message of a queue does
+pub fitting-width : (st : Start) → st .feeder ≤ 255 → (q : Queue) → Fitting st q → (m : Message) → In m q → InWidth (st .feeder) m
+fitting-width st f q k m i =
+    let g = k .kept .good .sorted in
+    let a = le-clock q m i in
+    let b = k .width in
+    proper-width st (g .fit .few) f m (g .proper m i) (omega arith)
 
 -- the counter of a received frame fits its bytes
 abbrev pub CounterFits : Call → Type 0
@@ -148,3 +164,6 @@ fitting-change st c q q′ f (accepted {s = s} w) k =
       own = came-own st q m k w;
       width = came-width st q m k w f;
     }
+
+pub fitting-next : (st : Start) (q : Queue) → Fitting st q → (c : Call) → CounterFits c → Fitting st (onQueue st q c .next)
+fitting-next st q k c f = fitting-change st c q (onQueue st q c .next) f (change st q c) k

@@ -6,7 +6,7 @@ use mathlib.Core.Bool.{not, _&&_}
 use mathlib.Core.List.{List, [], _∷_, _++_, append-assoc}
 use Prim.Native.Nat.{ℕ, _≤_, _<_}
 use native.Mathlib.Omega.{arith}
-use lib.Dec.{leb, ltb, eqb, leb→le, ltb→lt, eqb→eq}
+use lib.Dec.{ltb, eqb, ltb→lt, eqb→eq}
 use Rattle.laws.specs.Lists.{In, keep, Begins, put}
 use Rattle.laws.proofs.Tests.{test, cond-both, and-l, and-r, neqb→ne}
 use Rattle.laws.proofs.ListLaws.{in-right, keep-in, begins-refl, begins-trans, begins-drop}
@@ -30,6 +30,7 @@ use Rattle.queue.proofs.Good.{New, le-clock}
 use Rattle.queue.proofs.Changes.{Change, unchanged, spoke, accepted, change}
 use Rattle.queue.proofs.Parts.{others-said, others-accepted, own-said, own-accepted, sender-accepted}
 use Rattle.queue.proofs.Holding.{Kept, kept-change, kept-empty}
+use Rattle.queue.proofs.Fitting.{proper-width}
 
 -- counters fit their four bytes
 abbrev Small : Queue → Type 0
@@ -155,12 +156,7 @@ module _ (L : Line) (f : L .feeder ≤ 255) (s : Feeder) (w : Ran L s) where
   pub in-width : (p : ℕ) → p < L .posts → (m : Message) → In m (s p) → InWidth (L .feeder) m
   in-width p l m i =
       let g = w .kept p l .good .sorted in
-      let t = g .proper m i in
-      let a = t .sender in
-      let b = g .fit .few in
-      let c = w .small p l m i in
-      let k = leb→le (m .kind) 3 (and-r (leb 1 (m .kind)) (leb (m .kind) 3) (t .kind)) in
-      record { feeder = omega arith; kind = omega arith; sender = omega arith; counter = omega arith }
+      proper-width (start L p) (g .fit .few) f m (g .proper m i) (w .small p l m i)
 
   -- the next message of p is offered to q
   ran-offer : (p q : ℕ) → p < L .posts → q < L .posts → (ms : List Message) → had s p q ++ ms ≡ sent s p → Ran L (afterMade L s (offered L q ms))
