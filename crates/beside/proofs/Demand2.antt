@@ -6,16 +6,16 @@ use lib.Dec.{T}
 use Rattle.frame.proofs.FrameFields.{counter-fits}
 use Rattle.calls.specs.declared.Start.{Start}
 use Rattle.queue.specs.Queue.{Queue}
-use Rattle.calls.specs.Replies.{Call, own-call, receive-call, value-call, missing-call, after, replies}
+use Rattle.calls.specs.Replies.{Call, own-call, receive-call, value-call, missing-call, Reply, after, replies}
 use Rattle.queue.specs.Calls.{onQueue}
-use Rattle.queue.proofs.Changes.{change}
-use Rattle.queue.proofs.Fitting.{Fitting, CounterFits, fitting-change}
+use Rattle.queue.proofs.Fitting.{Fitting, CounterFits, fitting-next}
 use Rattle.post.specs.declared.Post.{Post}
 use Rattle.post.specs.Sound.{sound}
 use Rattle.calls.proofs.Ranges.{range-is}
 use Rattle.beside.specs.Image.{image}
-use Rattle.beside.specs.OnRecord.{onRecord}
+use Rattle.beside.specs.OnRecord.{onRecord, startedPost}
 use Rattle.beside.specs.Demand2.{Accepted, FramesAreBytes, Demand2, SameRecord, SideBySide, RefusedStart}
+use Rattle.beside.specs.Demand3.{Event, history}
 use Rattle.beside.proofs.ImageSound.{image-sound}
 use Rattle.beside.proofs.Answers.{Same, own-same, receive-same}
 use Rattle.beside.proofs.Inquiries.{value-same, missing-same}
@@ -34,23 +34,25 @@ pub one-call : (st : Start) → Accepted st → (q : Queue) → Fitting st q →
 one-call st a q k = by-call st q k (image-sound st q k (range-is st a))
 
 -- the counter of a frame of bytes fits
-counters-fit : (c : Call) (calls : List Call) → FramesAreBytes (c ∷ calls) → CounterFits c × FramesAreBytes calls
+pub counters-fit : (c : Call) (calls : List Call) → FramesAreBytes (c ∷ calls) → CounterFits c × FramesAreBytes calls
 counters-fit (own-call o lent) calls b = (tt, b)
 counters-fit (receive-call s lent) calls b = let h = counter-fits s (b .0) in (omega arith, b .1)
 counters-fit value-call calls b = (tt, b)
 counters-fit missing-call calls b = (tt, b)
 
 any-calls : (st : Start) → Accepted st → (calls : List Call) → FramesAreBytes calls → (q : Queue) → Fitting st q
-    → (replies onRecord (image st q) calls ≡ replies (onQueue st) q calls) × (after onRecord (image st q) calls ≡ image st (after (onQueue st) q calls))
-unfolding after replies
-any-calls st a [] b q k = (refl, refl)
+    → (replies onRecord (image st q) calls ≡ replies (onQueue st) q calls)
+    × (after onRecord (image st q) calls ≡ image st (after (onQueue st) q calls))
+    × (history onRecord (image st q) calls ≡ history (onQueue st) q calls)
+unfolding after replies history
+any-calls st a [] b q k = (refl, refl, refl)
 any-calls st a (c ∷ calls) b q k =
     let f = counters-fit c calls b in
     let s = one-call st a q k c (f .0) in
-    let q′ = onQueue st q c .next in
-    let r = any-calls st a calls (f .1) q′ (fitting-change st c q q′ (f .0) (change st q c) k) in (
+    let r = any-calls st a calls (f .1) (onQueue st q c .next) (fitting-next st q k c (f .0)) in (
       ap₂ _∷_ (s .reply) (ap (λ (p : Post). replies onRecord p calls) (s .next) ∙ r .0),
       ap (λ (p : Post). after onRecord p calls) (s .next) ∙ r .1,
+      ap₂ (λ (x : Reply) (es : List Event). record { call = c; reply = x } ∷ es) (s .reply) (ap (λ (p : Post). history onRecord p calls) (s .next) ∙ r .2),
     )
 
 pub demand2 : Demand2
@@ -58,6 +60,11 @@ demand2 st a calls b = ap (λ (p : Post). replies onRecord p calls) (started-ima
 
 pub same-record : SameRecord
 same-record st a calls b = ap (λ (p : Post). after onRecord p calls) (started-image st a) ∙ any-calls st a calls b [] (started-fits st a) .1
+
+-- so the calls with their replies are the same too
+pub same-history : (st : Start) → Accepted st → (calls : List Call) → FramesAreBytes calls
+    → history onRecord (startedPost st) calls ≡ history (onQueue st) [] calls
+same-history st a calls b = ap (λ (p : Post). history onRecord p calls) (started-image st a) ∙ any-calls st a calls b [] (started-fits st a) .2
 
 pub side-by-side : SideBySide
 unfolding image

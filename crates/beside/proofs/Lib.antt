@@ -11,4 +11,8 @@ mod Demand2  -- the proofs of specs/Demand2
 mod Tells  -- what a reply tells of the queue after it
 mod Boards  -- boards stay beside queues, act by act
 mod RecordsAndBytes  -- the proof of specs/Records
+mod Histories  -- what a board wrote and accepted, call after call, tells its full queue
+mod LastTake  -- a board's granted takes are the last takes written by its marked calls
+mod OneBoard  -- what is seen of a board is what its full queue says
+mod Demand3  -- the proof of specs/Demand3
 mod NightsHold  -- the nights, by computation

@@ -2,7 +2,7 @@
 use mathlib.Core.Path.{_≡_, refl, sym, ap, _∙_, subst}
 use mathlib.Core.Logic.{_⊎_, inl, inr, ⊎-elim}
 use mathlib.Core.Bool.{Bool, true, false, not, cond, _&&_, and-true, and-false}
-use mathlib.Core.List.{List, [], _∷_, _++_, map, append-assoc, append-nil}
+use mathlib.Core.List.{List, [], _∷_, _++_, map, append-assoc, append-nil, map-append}
 use Prim.Native.Nat.{ℕ, _+_, _≤_, _<_}
 use native.Mathlib.Omega.{arith}
 use lib.Dec.{T, T-not, eqb}
@@ -121,15 +121,32 @@ module _ {A : Type 0} where
 
   -- ---- the last
 
+  pub final-append : (s t : List A) (d : A) → final (s ++ t) d ≡ final t (final s d)
+  unfolding final
+  final-append [] t d = refl
+  final-append (x ∷ s) t d = final-append s t x
+
   pub final-snoc : (l : List A) (x d : A) → final (l ++ (x ∷ [])) d ≡ x
   unfolding final
-  final-snoc [] x d = refl
-  final-snoc (y ∷ l) x d = final-snoc l x y
+  final-snoc l x d = final-append l (x ∷ []) d
 
   pub final-in : (l : List A) (d : A) → (final l d ≡ d) ⊎ In (final l d) l
   unfolding final
   final-in [] d = inl refl
   final-in (x ∷ l) d = inr (final-in l x)
+
+-- ---- each mapped
+
+module _ {A B : Type 0} (g : A → B) where
+  pub map-keep : (f : B → Bool) (l : List A) → map g (keep (λ a. f (g a)) l) ≡ keep f (map g l)
+  unfolding keep
+  map-keep f [] = refl
+  map-keep f (x ∷ l) =
+      let r = map-keep f l in
+      test (f (g x)) (λ y. rw (is-true (f (g x)) y, r)) (λ n. rw (is-false (f (g x)) n, r))
+
+  pub begins-map : (s t : List A) → Begins s t → Begins (map g s) (map g t)
+  begins-map s t b = (map g (b .0), sym (map-append g s (b .0)) ∙ ap (map g) (b .1))
 
 -- a list's parts by a number below n, counted, are together the list's count
 module _ {A : Type 0} (who : A → ℕ) (n : ℕ) (g : A → Bool) where
