@@ -15,4 +15,5 @@ mod Histories  -- what a board wrote and accepted, call after call, tells its fu
 mod LastTake  -- a board's granted takes are the last takes written by its marked calls
 mod OneBoard  -- what is seen of a board is what its full queue says
 mod Demand3  -- the proof of specs/Demand3
+mod AcceptedFrames  -- an accepted frame is the only way to write its message
 mod NightsHold  -- the nights, by computation

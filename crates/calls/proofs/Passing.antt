@@ -1,15 +1,18 @@
 -- What a call that no row of its table refuses was given. Assumes nothing.
-use mathlib.Core.Path.{_≡_}
+use mathlib.Core.Path.{_≡_, ap, _∙_}
 use mathlib.Core.Bool.{Bool, true, false, _&&_}
 use mathlib.Core.List.{List}
 use Prim.Native.Nat.{ℕ, _≤_, _<_}
 use borrow.Author.Tests.{eqb-true, eqb-false, leb-false, ltb-false, not-false}
 use denote.Floats.{passes}
 use lib.Dec.{T, leb, ltb, eqb}
+use lib.ListN.{length}
+use Rattle.laws.specs.Big.{Bytes}
 use Rattle.laws.specs.Ladder.{refusal}
 use Rattle.laws.proofs.Tests.{or-off}
 use Rattle.laws.proofs.Ladders.{quiet}
-use Rattle.frame.specs.{declared.Message.{Message}, Message.{msg, counted, known, lastCounter}, Frame.{size, fieldsOf, formRows}}
+use Rattle.frame.specs.{declared.Message.{Message}, Message.{msg, counted, known, lastCounter}, Frame.{mark, size, frame, fieldsOf, formRows}}
+use Rattle.frame.proofs.Frames.{fields-frame}
 use Rattle.calls.specs.{Own.{Own, taking, returning, rowOf}, View.{View, acks}, Table.{phaseTests, ownTests, served, senderTests, turnTests, receiveTests}}
 
 -- every own call sends a message that frames know, that is settled and counted, and has a number for another phase
@@ -75,3 +78,15 @@ receive-passed v s n e =
       counter = λ t. leb-false lastCounter (m .counter) (next t .1);
       few = λ t. leb-false 4 (v .waits (m .sender)) (and-off (counted m) _ (r .1 .1 .1 .1 .1 .0) t);
     }
+
+-- .. and the frame that brought it is its frame on the post's feeder
+pub receive-frame : (v : View) (s : List ℕ) (n : ℕ) → Bytes s → refusal (receiveTests v s n) ≡ 0 → s ≡ frame (v .start .feeder) (fieldsOf s .message)
+unfolding receiveTests formRows senderTests turnTests
+receive-frame v s n b e =
+    let f = fieldsOf s in
+    let q = quiet (receiveTests v s n) tt e .1 in
+    fields-frame s b
+    (eqb-true (length s) size (not-false _ (q .0)))
+    (eqb-true (f .mark) mark (not-false _ (q .1 .0)))
+    (eqb-true (f .version) 1 (not-false _ (q .1 .1 .0)))
+    ∙ ap (λ (x : ℕ). frame x (f .message)) (eqb-true (f .feeder) (v .start .feeder) (not-false _ (q .1 .1 .1 .0)))

@@ -73,17 +73,23 @@ of-numbers : (s : List ℕ) → length s ≡ size → fieldsIn widths s ≡ numb
 unfolding fieldsOf
 of-numbers s e = ap numbers (on (eqb (length s) size) (fieldsFrom (fieldsIn widths s)) (fieldsFrom []) (eq-eqb _ size e) refl)
 
-pub accepted-is-frame : AcceptedIsFrame
-unfolding writeRows frame
-accepted-is-frame s h e =
-    let p = has-passed s e in
+-- bytes with the mark and version of a frame are the frame of the message that stands in them
+pub fields-frame : (s : List ℕ) → Bytes s → length s ≡ size → fieldsOf s .mark ≡ mark → fieldsOf s .version ≡ 1
+    → s ≡ frame (fieldsOf s .feeder) (fieldsOf s .message)
+unfolding frame
+fields-frame s h whole marked version =
     let f = fieldsOf s in
     let m = f .message in
-    let r : reading 0 f ≡ readFrame s = sym (p .read) in (
-      sym (only-fields widths s h (p .whole))
-          ∙ ap (fieldBytes widths) (of-numbers s (p .whole))
-          ∙ (λ i. fieldBytes widths (p .marked i ∷ p .version i ∷ f .feeder ∷ m .kind ∷ m .sender ∷ m .counter ∷ []))
-          ∙ (λ i. frame (r i .feeder) (r i .message)),
+    sym (only-fields widths s h whole)
+    ∙ ap (fieldBytes widths) (of-numbers s whole)
+    ∙ (λ i. fieldBytes widths (marked i ∷ version i ∷ f .feeder ∷ m .kind ∷ m .sender ∷ m .counter ∷ []))
+
+pub accepted-is-frame : AcceptedIsFrame
+unfolding writeRows
+accepted-is-frame s h e =
+    let p = has-passed s e in
+    let r : reading 0 (fieldsOf s) ≡ readFrame s = sym (p .read) in (
+      fields-frame s h (p .whole) (p .marked) (p .version) ∙ (λ i. frame (r i .feeder) (r i .message)),
       (λ i. refusal (writeRows size (p .read i .message))) ∙ p .message,
     )
 
