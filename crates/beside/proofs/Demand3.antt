@@ -1,6 +1,6 @@
 -- Demand 3 said of boards: the proof of `specs/Demand3`. What is seen of each board is what its full queue says (`OneBoard`), the frames that
 -- it accepted are the messages that it has of the others, and full queues meet demand 3 (`strong`). Assumes nothing.
-use mathlib.Core.Path.{_≡_, refl, sym, ap, _∙_, subst₂, subst₃}
+use mathlib.Core.Path.{_≡_, refl, sym, ap, _∙_, subst, subst₂, subst₃}
 use mathlib.Core.Logic.{_⊎_, _↔_, ⊎-elim}
 use mathlib.Core.List.{List, [], map}
 use Prim.Native.Nat.{ℕ, _+_, _≤_, _<_}
@@ -19,6 +19,7 @@ use Rattle.calls.proofs.Ranges.{range-is}
 use Rattle.queue.specs.Calls.{onQueue}
 use Rattle.queue.specs.Feeder.{Line, start, Feeder, returnsSent, granted, holding}
 use Rattle.queue.specs.Demand3.{Faithful, Cleared, Demand3}
+use Rattle.queue.proofs.Heard.{settled-in}
 use Rattle.queue.proofs.Demand3.{strong}
 use Rattle.beside.specs.Demand2.{FramesAreBytes}
 use Rattle.beside.specs.Records.{LineFits}
@@ -79,4 +80,5 @@ of-boards L fits calls bytes first =
           subst₃ (λ (g s : List Message) (n : ℕ). In t g ↔ (In t (keep isTake s) × (t .sender ≡ p) × (upto stamp (keep isTake s) t ≤ L .places + n)))
           (sym (at p lp .marks-is)) (settled q lq) (returns-are L fits calls bytes)
           (d .exactly (cleared L fits calls bytes all) p q lp lq t);
+      senders = λ q lq m i. d .senders q lq m (settled-in (start L q) (queues L fits calls bytes q) m (subst (In m) (at q lq .settled-is) i) .0);
     }

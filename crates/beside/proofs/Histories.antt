@@ -11,7 +11,7 @@ use Rattle.frame.specs.declared.Message.{Message}
 use Rattle.frame.specs.declared.Fields.{Fields}
 use Rattle.frame.specs.Message.{by}
 use Rattle.frame.specs.Frame.{frame}
-use Rattle.frame.proofs.Frames.{InWidth}
+use Rattle.frame.specs.Demand2.{InWidth}
 use Rattle.frame.proofs.FrameFields.{frame-fields}
 use Rattle.calls.specs.declared.Start.{Start}
 use Rattle.calls.specs.Replies.{Call, Answer, after}

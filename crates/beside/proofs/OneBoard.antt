@@ -15,6 +15,7 @@ use Rattle.calls.specs.Replies.{Call, after}
 use Rattle.calls.proofs.Ranges.{range-is}
 use Rattle.queue.specs.Queue.{Queue, heard, settled, grants, latest, phase}
 use Rattle.queue.specs.Calls.{onQueue}
+use Rattle.queue.proofs.Floors.{heard-floor}
 use Rattle.queue.proofs.Fitting.{Fitting}
 use Rattle.queue.proofs.Demand3 as queue
 use Rattle.post.specs.declared.Post.{Post}
@@ -22,8 +23,8 @@ use Rattle.post.specs.Record.{floor}
 use Rattle.beside.specs.Image.{image}
 use Rattle.beside.specs.OnRecord.{onRecord, startedPost}
 use Rattle.beside.specs.Demand2.{Accepted, FramesAreBytes}
-use Rattle.beside.specs.Demand3.{Event, history, wrote, messageIn, acceptedOf, held, marks}
-use Rattle.beside.proofs.ImageParts.{image-floor, heard-floor}
+use Rattle.beside.specs.Demand3.{Event, history, wrote, messageIn, acceptedOf, held, marks, InOrder}
+use Rattle.beside.proofs.ImageParts.{image-floor}
 use Rattle.beside.proofs.Starts.{started-fits}
 use Rattle.beside.proofs.Demand2.{same-record, same-history}
 use Rattle.beside.proofs.Histories.{recounts}
@@ -66,3 +67,6 @@ of-queue st a calls b =
       phase-is = refl;
     } in
     subst₂ (OfQueue st q) (sym (same-history st a calls b)) (sym (same-record st a calls b)) here
+
+pub in-order : InOrder
+in-order st a calls b = let o = of-queue st a calls b in (o .wrote-is, o .accepted-is)

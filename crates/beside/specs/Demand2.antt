@@ -1,7 +1,9 @@
 -- Demand 2: the short record answers as the full queue does. What is stated; `proofs/` proves it.
-use Rattle.laws.specs.{Words.{_≡_, not, List, [], _∷_, map, T, pos}, Big.{Bytes}}
+use Rattle.laws.specs.{Words.{_≡_, not, List, [], _∷_, map, ℕ, T, pos}, Big.{Bytes}}
 use Rattle.calls.specs.{declared.Start.{Start}, Start.{inRange}}
 use Rattle.calls.specs.Replies.{Call, own-call, receive-call, value-call, missing-call, Reply, worth, lacking, refusing, after, replies}
+use Rattle.frame.specs.Frame.{frame, fieldsOf}
+use Rattle.post.specs.{declared.Post.{Post}, Calls.{received}}
 use Rattle.queue.specs.{Queue.{phase, order}, Calls.{onQueue}}
 use Rattle.beside.specs.{Image.{image}, OnRecord.{onRecord, startedPost}}
 
@@ -42,3 +44,7 @@ refusedOne missing-call = lacking 1 0 0
 abbrev pub RefusedStart : Type 0
 RefusedStart = (st : Start) → T (not (inRange st)) → (calls : List Call)
     → (replies onRecord (startedPost st) calls ≡ map refusedOne calls) × (after onRecord (startedPost st) calls ≡ startedPost st)
+
+-- a frame that receive accepts is the only way to write its message: it is the message's frame on the record's feeder, whatever the record
+abbrev pub AcceptedFrame : Type 0
+AcceptedFrame = (p : Post) (s lent : List ℕ) → Bytes s → received p s lent .gives .number ≡ 0 → s ≡ frame (p .feeder) (fieldsOf s .message)

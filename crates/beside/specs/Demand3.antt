@@ -1,11 +1,12 @@
 -- Demand 3 said of boards: of what they were asked, what they answered and what they wrote, and of nothing else. `proofs/Demand3` proves it.
 use Rattle.laws.specs.Words.{cond, List, [], _∷_, _++_, map, _≡_, _⊎_, _↔_, ℕ, _+_, _≤_, _<_, leb, eqb, length, _&&_}
 use Rattle.laws.specs.{Lists.{In, keep, many, final, Begins, put, upto}, Below.{sumTo, countTo}}
-use Rattle.frame.specs.{declared.Message.{Message}, Message.{blank, isTake, isReturn, counted, stamp}, Frame.{fieldsOf}}
+use Rattle.frame.specs.{declared.Message.{Message}, Message.{blank, isTake, isReturn, counted, stamp, by}, Frame.{fieldsOf}}
+use Rattle.calls.specs.declared.Start.{Start}
 use Rattle.calls.specs.Replies.{Call, own-call, receive-call, value-call, missing-call, Reply, Answer, after}
 use Rattle.post.specs.{declared.Post.{Post}, Record.{floor}}
-use Rattle.queue.specs.{Feeder.{Line, start}, Demand3.{marked}}
-use Rattle.beside.specs.{OnRecord.{onRecord, startedPost}, Demand2.{FramesAreBytes}, Records.{written, done, LineFits}}
+use Rattle.queue.specs.{Calls.{onQueue}, Feeder.{Line, start}, Demand3.{marked}}
+use Rattle.beside.specs.{OnRecord.{onRecord, startedPost}, Demand2.{Accepted, FramesAreBytes}, Records.{written, done, LineFits}}
 
 -- ---- what can be seen of one board
 
@@ -59,6 +60,12 @@ marks t (e ∷ es) =
     let t′ = final (keep isTake (map messageIn (written (e .reply)))) t in
     cond (marked (e .reply)) (t′ ∷ []) [] ++ marks t′ es
 
+-- the messages that a post has of itself and of another, sorted by stamp, are those it wrote and those it accepted, in the order of the calls
+abbrev pub InOrder : Type 0
+InOrder = (st : Start) → Accepted st → (calls : List Call) → FramesAreBytes calls
+    → let q = after (onQueue st) [] calls in let es = history onRecord (startedPost st) calls in
+    (map messageIn (wrote es) ≡ keep (by (st .own)) q) × ((r : ℕ) → (r ≡ st .own → ⊥) → map messageIn (acceptedOf r es) ≡ keep (by r) q)
+
 -- ---- the boards of a feeder, each with any calls, any frames and any buffers
 
 module _ (L : Line) (calls : ℕ → List Call) where
@@ -97,6 +104,8 @@ module _ (L : Line) (calls : ℕ → List Call) where
     -- .. and the granted takes are exactly those whose number among the settled takes is at most the places plus the returns
     pub exactly : AllAccepted → (p q : ℕ) → p < L .posts → q < L .posts → (t : Message)
         → In t (grantedAt p) ↔ (In t (keep isTake (settledAt q)) × (t .sender ≡ p) × (upto stamp (keep isTake (settledAt q)) t ≤ L .places + returnsWritten))
+    -- the sender of a settled message is a post of the feeder, so what is granted is granted somewhere
+    pub senders : (q : ℕ) → q < L .posts → (m : Message) → In m (settledAt q) → m .sender < L .posts
 
 abbrev pub OfBoards : Type 0
 OfBoards = (L : Line) → LineFits L → (calls : ℕ → List Call) → ((p : ℕ) → p < L .posts → FramesAreBytes (calls p)) → FirstFrames L calls → Boards L calls

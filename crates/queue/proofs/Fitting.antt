@@ -14,7 +14,7 @@ use Rattle.laws.proofs.Counting.{one-most, one-no, many-keep}
 use Rattle.frame.specs.declared.Message.{Message}
 use Rattle.frame.specs.Message.{msg, isReturn, counted, known, lastCounter, stamp, by, ownReturn}
 use Rattle.frame.specs.Frame.{fieldsOf}
-use Rattle.frame.proofs.Frames.{InWidth}
+use Rattle.frame.specs.Demand2.{InWidth}
 use Rattle.calls.specs.Own.{taking, returning}
 use Rattle.calls.specs.declared.Start.{Start}
 use Rattle.queue.specs.Queue.{Queue, clock, heard, waiting, latest}
