@@ -4,7 +4,8 @@ mod lines;
 mod writing;
 
 use frame::Message;
-use lines::Command;
+pub use lines::Command;
+pub use lines::Header;
 use post::Post;
 ghost use mathlib.Core.Path.{_≡_};
 ghost use mathlib.Core.Bool.{false, not, _&&_, _||_};

@@ -10,7 +10,7 @@ ghost use Rattle.bench.specs.Lines.{empty, pushed, kept, inside, inRange
 ghost use Rattle.bench.specs.Inside.{digit, numberAt, afterAt, guessHeader, guessCommand, headerFits};
 
 // What a line asks for.
-pub(crate) enum Command {
+pub enum Command {
     Take(u8),
     Return(u8),
     // offer the second post the next message of the first
@@ -20,7 +20,7 @@ pub(crate) enum Command {
 }
 
 // What a first line says; zeros where it is no header.
-pub(crate) struct Header {
+pub struct Header {
     pub posts: u8,
     pub places: u8,
 }

@@ -4,10 +4,10 @@ mod ImageParts  -- the record of a queue, part by part, and its view
 mod ImageSound  -- .. is sound
 mod Counted  -- settled, it is the record of the later queue
 mod Steps  -- each call brings it to the record of the queue after it
-mod Answers  -- .. and answers as the queue does
+pub mod Answers  -- .. and answers as the queue does
 mod Inquiries  -- value and missing
-mod Starts  -- a start gives the record of the empty queue
-mod Demand2  -- the proofs of specs/Demand2
+pub mod Starts  -- a start gives the record of the empty queue
+pub mod Demand2  -- the proofs of specs/Demand2
 mod Tells  -- what a reply tells of the queue after it
 mod Boards  -- boards stay beside queues, act by act
 mod RecordsAndBytes  -- the proof of specs/Records

@@ -1,0 +1,1 @@
+-- Why the bench shows the same posts over short records and over full queues.

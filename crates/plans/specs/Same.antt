@@ -1,0 +1,13 @@
+-- The manager's test: "The same feeder on the same night must show the same posts in the same order."
+-- What is stated; `proofs/` proves it.
+use Rattle.laws.specs.Words.{List, _≡_, ℕ}
+use Rattle.bench.specs.Output.{output}
+use Rattle.plans.specs.{Plan.{basic, full}, Output.{outputOver}}
+
+-- the bench writes what posts with short records say
+abbrev pub BenchIsBasic : Type 0
+BenchIsBasic = (input : List ℕ) → output input ≡ outputOver basic input
+
+-- and that is what posts with full queues say
+abbrev pub SamePosts : Type 0
+SamePosts = (input : List ℕ) → output input ≡ outputOver full input
