@@ -62,6 +62,7 @@ one-pair a c p q lc lq e z =
     let g : c ≡ q = omega arith in
     rw (eq-eqb a p f, eq-eqb c q g) at z
 
+-- two choices by one test
 either : {A : Type 0} (t : Bool) {x x′ y y′ : A} → (T t → x ≡ x′) → y ≡ y′ → cond t x y ≡ cond t x′ y′
 either true f e = f tt
 either false f e = e
@@ -72,7 +73,8 @@ unfolding opened started fresh
 opened-idle n k p = cond-both {A = Started} (λ s. s .post .phase ≡ 0) (inRange (starting n p 0 k)) _ _ (λ y. refl) (λ z. refl)
 
 module _ (n : ℕ) (few : n ≤ 16) where
-  -- after i commands
+  -- the two nights after i commands: the posts below N are the same, the others idle; the places filled hold what is sent, at most one
+  -- for each command; the read positions are the same
   record Beside (i : ℕ) (s : declared.Night) (t : Night Post) : Type 0 where
     post : (p : ℕ) → p < n → postOf s p ≡ t .posts p
     idle : (p : ℕ) → n ≤ p → postOf s p .phase ≡ 0
@@ -88,6 +90,7 @@ module _ (n : ℕ) (few : n ≤ 16) where
     number : r .number ≡ u .number
     granted : r .granted ≡ u .granted
 
+  -- a command that changes nothing
   later : (i : ℕ) (s : declared.Night) (t : Night Post) → Beside i s t → Beside (i + 1) s t
   later i s t b = record {
     post = b .post;
@@ -142,6 +145,7 @@ module _ (n : ℕ) (few : n ≤ 16) where
             ∙ ap (λ (l : List Message). l ++ (m ∷ [])) (b .sent))
         sends false = b .sent ∙ sym (append-nil (t .sent))
 
+    -- a take or a return
     own-beside : i < 256 → (p : ℕ) → p < n → (o : Own)
         → let c = bench.speaks o (postOf s p) in
         RanBeside (i + 1) (bench.answered (bench.handedBack s p c) c) (called basic t p (own-call o lent))
@@ -181,6 +185,7 @@ module _ (n : ℕ) (few : n ≤ 16) where
     unfolding bench.nextOf nextOf
     next-beside p q lp lq = λ j. seek p (b .read p q lp lq j) (drop (b .read p q lp lq j) (b .sent j))
 
+    -- a next message stands among those sent
     next-there : i < 256 → (p q : ℕ) → bench.nextOf s p q < 256 → bench.nextOf s p q < s .count
     unfolding bench.nextOf
     next-there h p q l =
@@ -293,6 +298,6 @@ lines-beside (l ∷ ls) =
     let k = h .places in
     ap (cond (eqb n 0) badHeader) (answers-beside n (header-few l) k ls 0 (bench.begun n k) (begun basic n k) (begun-beside n (header-few l) k))
 
-pub bench-is-basic : BenchIsBasic
+pub beside-records : BenchIsBasic
 unfolding output outputOver
-bench-is-basic input = lines-beside (linesFrom [] input)
+beside-records input = lines-beside (linesFrom [] input)
