@@ -1,4 +1,5 @@
 -- Why the record stays beside the queue.
+mod Demand1  -- the proof of specs/Demand1
 mod Listed  -- a list of the values of a function
 mod ImageParts  -- the record of a queue, part by part, and its view
 mod ImageSound  -- .. is sound

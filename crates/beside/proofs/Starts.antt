@@ -18,7 +18,8 @@ use Rattle.post.specs.Calls as post
 use Rattle.calls.proofs.Ranges.{range-is}
 use Rattle.beside.specs.Image.{listFrom, image}
 use Rattle.beside.specs.OnRecord.{onRecord, startedPost}
-use Rattle.beside.specs.Demand2.{Accepted, refusedOne, RefusedStart}
+use Rattle.beside.specs.Demand1.{refusedWith}
+use Rattle.beside.specs.Demand2.{Accepted, RefusedStart}
 
 -- the all-zero record
 abbrev zero : Post
@@ -37,7 +38,7 @@ started-fits st a =
     let r = range-is st a in
     fitting-empty st (record { few = r .posts-high; mine = r .own-low })
 
-zero-refuses : (c : Call) → (onRecord zero c .reply ≡ refusedOne c) × (onRecord zero c .next ≡ zero)
+zero-refuses : (c : Call) → (onRecord zero c .reply ≡ refusedWith 1 c) × (onRecord zero c .next ≡ zero)
 unfolding onRecord post.ownRows post.receiveRows unless post.valued
     post.missed sound numberRules inRange fresh
 zero-refuses (own-call o lent) = (refl, refl)
@@ -46,7 +47,7 @@ zero-refuses value-call = (refl, refl)
 zero-refuses missing-call = (refl, refl)
 
 -- call after call
-zero-stays : (calls : List Call) → (replies onRecord zero calls ≡ map refusedOne calls) × (after onRecord zero calls ≡ zero)
+zero-stays : (calls : List Call) → (replies onRecord zero calls ≡ map (refusedWith 1) calls) × (after onRecord zero calls ≡ zero)
 unfolding replies after
 zero-stays [] = (refl, refl)
 zero-stays (c ∷ calls) =
@@ -60,4 +61,4 @@ pub refuses : RefusedStart
 unfolding post.started
 refuses st n calls =
     let e : startedPost st ≡ zero = ap (either st) (is-false (inRange st) n) in
-    subst (λ (p : Post). (replies onRecord p calls ≡ map refusedOne calls) × (after onRecord p calls ≡ p)) (sym e) (zero-stays calls)
+    subst (λ (p : Post). (replies onRecord p calls ≡ map (refusedWith 1) calls) × (after onRecord p calls ≡ p)) (sym e) (zero-stays calls)

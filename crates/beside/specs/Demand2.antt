@@ -1,11 +1,11 @@
 -- Demand 2: the short record answers as the full queue does. What is stated; `proofs/` proves it.
-use Rattle.laws.specs.{Words.{_≡_, not, List, [], _∷_, map, ℕ, T, pos}, Big.{Bytes}}
+use Rattle.laws.specs.{Words.{_≡_, not, List, [], _∷_, map, ℕ, T}, Big.{Bytes}}
 use Rattle.calls.specs.{declared.Start.{Start}, Start.{inRange}}
-use Rattle.calls.specs.Replies.{Call, own-call, receive-call, value-call, missing-call, Reply, worth, lacking, refusing, after, replies}
+use Rattle.calls.specs.Replies.{Call, own-call, receive-call, value-call, missing-call, after, replies}
 use Rattle.frame.specs.Frame.{frame, fieldsOf}
 use Rattle.post.specs.{declared.Post.{Post}, Calls.{received}}
 use Rattle.queue.specs.{Queue.{phase, order}, Calls.{onQueue}}
-use Rattle.beside.specs.{Image.{image}, OnRecord.{onRecord, startedPost}}
+use Rattle.beside.specs.{Image.{image}, OnRecord.{onRecord, startedPost}, Demand1.{refusedWith}}
 
 -- the start is accepted
 abbrev pub Accepted : Start → Type 0
@@ -33,17 +33,10 @@ SideBySide = (st : Start) → Accepted st → (calls : List Call) → FramesAreB
     → let p = after onRecord (startedPost st) calls in let q = after (onQueue st) [] calls in
     (p .order ≡ order st q) × (p .phase ≡ phase st q)
 
--- what a call gives that is refused with 1
-abbrev pub refusedOne : Call → Reply
-refusedOne (own-call o lent) = refusing lent 1
-refusedOne (receive-call s lent) = refusing lent 1
-refusedOne value-call = worth 1 (pos 0)
-refusedOne missing-call = lacking 1 0 0
-
 -- a refused start has no queue: every later call gives 1 and changes nothing
 abbrev pub RefusedStart : Type 0
 RefusedStart = (st : Start) → T (not (inRange st)) → (calls : List Call)
-    → (replies onRecord (startedPost st) calls ≡ map refusedOne calls) × (after onRecord (startedPost st) calls ≡ startedPost st)
+    → (replies onRecord (startedPost st) calls ≡ map (refusedWith 1) calls) × (after onRecord (startedPost st) calls ≡ startedPost st)
 
 -- a frame that receive accepts is the only way to write its message: it is the message's frame on the record's feeder, whatever the record
 abbrev pub AcceptedFrame : Type 0
