@@ -10,6 +10,6 @@ mod Running  -- pieces and buffers write what the bytes write one by one
 mod Reading  -- .. and that is the output of the lines
 mod Sessions  -- a whole session
 pub mod WholeNights  -- every input, every way to cut it, every buffer
-pub mod Places  -- no written message is dropped
-mod Fits  -- what is used and written is within what was given
+mod Places  -- no written message is dropped
+pub mod Fits  -- what is used and written is within what was given
 pub mod Unique  -- two results that meet a promise are equal
