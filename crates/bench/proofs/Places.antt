@@ -1,5 +1,5 @@
 -- A command sends at most one message, so 256 places are enough for 256 commands. Assumes nothing.
-use mathlib.Core.Bool.{_&&_, cond}
+use mathlib.Core.Bool.{_&&_}
 use mathlib.Core.List.{List, [], _∷_}
 use Prim.Native.Nat.{ℕ, _+_, _≤_}
 use native.Mathlib.Omega.{arith}
@@ -7,12 +7,12 @@ use lib.Dec.{leb, ltb, eqb}
 use lib.ListN.{length, getD}
 use Rattle.laws.proofs.Tests.{cond-both}
 use Rattle.frame.specs.Message.{blank}
-use Rattle.calls.specs.Own.{Own, taking, returning}
+use Rattle.calls.specs.Own.{taking, returning}
 use Rattle.bench.specs.declared.Night.{Night}
 use Rattle.bench.specs.declared.commands.Called.{Called}
 use Rattle.bench.specs.declared.lines.Command.{Command}
 use Rattle.bench.specs.declared.lines.Command.the-variants.{Take, Return, Deliver, Unknown}
-use Rattle.bench.specs.Night.{speaks, receives, begun, postOf, handedBack, nextOf, passed, Ran, refused, answered, offered, ran}
+use Rattle.bench.specs.Night.{speaks, receives, begun, postOf, handedBack, nextOf, passed, Ran, refused, offered, ran}
 use Rattle.bench.specs.Output.{afterAll, NoneDropped}
 
 one-more : (s : Night) (p : ℕ) (c : Called) → handedBack s p c .count ≤ s .count + 1

@@ -19,7 +19,7 @@ use Rattle.frame.proofs.FrameFields.{frame-fields}
 use Rattle.queue.specs.Queue.{Queue, settled, grants}
 use Rattle.calls.specs.Replies.{Call, own-call, receive-call, Reply}
 use Rattle.queue.specs.Calls.{onQueue}
-use Rattle.queue.specs.Feeder.{Line, start, Feeder, fresh, sent, had, pending, Act, own-at, deliver, none, at-post, buffer, offered, comesTo, afterMade, run}
+use Rattle.queue.specs.Feeder.{Line, start, LineFits, Feeder, fresh, sent, had, pending, Act, own-at, deliver, none, at-post, buffer, offered, comesTo, afterMade, run}
 use Rattle.queue.specs.Demand3.{marked}
 use Rattle.queue.proofs.Grants.{grants-after}
 use Rattle.queue.proofs.Fitting.{Fitting, CounterFits, fitting-next}
@@ -27,7 +27,8 @@ use Rattle.queue.proofs.Runs.{Ran, in-width, ran-act}
 use Rattle.post.specs.declared.Post.{Post}
 use Rattle.beside.specs.Image.{image}
 use Rattle.beside.specs.OnRecord.{onRecord}
-use Rattle.beside.specs.Records.{Board, Boards, begun, written, done, called, with-board, offers, acted, runBoards, LineFits}
+use Rattle.beside.specs.Tells.{written, done}
+use Rattle.beside.specs.Records.{Board, Boards, begun, called, with-board, offers, acted, runBoards}
 use Rattle.beside.specs.Demand3.{frameIn, messageIn}
 use Rattle.beside.proofs.Starts.{started-image, started-fits}
 use Rattle.beside.proofs.Demand2.{one-call}

@@ -12,13 +12,13 @@ use Rattle.laws.proofs.Tests.{cond-both}
 use Rattle.frame.specs.Message.{blank}
 use Rattle.frame.specs.Frame.{fieldsOf, readFrame, reading, bytesAfter, over, writeNo}
 use Rattle.calls.specs.Start.{inRange}
-use Rattle.calls.specs.Replies.{Call, own-call, receive-call, value-call, missing-call, Answer}
+use Rattle.calls.specs.Replies.{Call, own-call, receive-call, value-call, missing-call}
 use Rattle.post.specs.declared.Post.{Post}
 use Rattle.post.specs.Sound.{sound}
 use Rattle.post.specs.Calls.{started, Outcome, stays, said, heardFrom, ownRows, receiveRows, valued, missed}
 use Rattle.post.proofs.Sound.Starts as starts
 use Rattle.beside.specs.OnRecord.{onRecord, answered}
-use Rattle.beside.specs.Records.{done}
+use Rattle.beside.specs.Tells.{done}
 use Rattle.beside.specs.Demand1.{rowsOf, refusedWith, readNo, Demand1}
 
 -- what is done where n is 0, and else what is refused with n

@@ -17,12 +17,11 @@ use Rattle.frame.specs.Message.{isTake, isReturn, counted, stamp}
 use Rattle.calls.specs.Replies.{Call, after}
 use Rattle.calls.proofs.Ranges.{range-is}
 use Rattle.queue.specs.Calls.{onQueue}
-use Rattle.queue.specs.Feeder.{Line, start, Feeder, returnsSent, granted, holding}
+use Rattle.queue.specs.Feeder.{Line, start, LineFits, Feeder, returnsSent, granted, holding}
 use Rattle.queue.specs.Demand3.{Faithful, Cleared, Demand3}
 use Rattle.queue.proofs.Heard.{settled-in}
 use Rattle.queue.proofs.Demand3.{strong}
 use Rattle.beside.specs.Demand2.{FramesAreBytes}
-use Rattle.beside.specs.Records.{LineFits}
 use Rattle.beside.specs.Demand3.{messageIn, wrote, acceptedOf, events, boardOf, FirstFrames, AllAccepted, grantedAt, returnsWritten, OfBoards}
 use Rattle.beside.proofs.OneBoard.{OfQueue, of-queue}
 

@@ -20,7 +20,7 @@ use Rattle.queue.specs.Queue.{Queue}
 use Rattle.queue.specs.Calls.{onQueue}
 use Rattle.queue.proofs.Fitting.{Fitting, CounterFits, fitting-next, fitting-width}
 use Rattle.beside.specs.Demand2.{Accepted, FramesAreBytes}
-use Rattle.beside.specs.Records.{written}
+use Rattle.beside.specs.Tells.{written}
 use Rattle.beside.specs.Demand3.{Event, history, taken, wrote, messageIn, acceptedOf, putAll, held}
 use Rattle.beside.proofs.Demand2.{counters-fit}
 use Rattle.beside.proofs.Tells.{came, tells}

@@ -1,23 +1,20 @@
 -- The record of a queue, part by part: last counters, what waits, the floor, and what the table sees. Assumes nothing.
 use mathlib.Core.Path.{_≡_, refl, sym, ap, _∙_}
-use mathlib.Core.Logic.{_↔_}
 use mathlib.Core.List.{List}
-use Prim.Native.Nat.{ℕ, _-_, _^_, _≤_}
+use Prim.Native.Nat.{ℕ, _-_, _^_}
 use native.Mathlib.Omega.{arith}
-use lib.Dec.{T, ltb, ltb→lt, nltb→le}
+use lib.Dec.{ltb, ltb→lt, nltb→le}
 use lib.ListN.{length, take, replicate, List·getD-eq-default}
 use lib.Seq.{take-at}
-use Rattle.laws.specs.Below.{leastTo}
-use Rattle.laws.specs.Lists.{In, many}
+use Rattle.laws.specs.Lists.{many}
 use Rattle.laws.proofs.Tests.{test}
-use Rattle.laws.proofs.LeastLaws.{least-le, le-least, least-cong}
+use Rattle.laws.proofs.LeastLaws.{least-cong}
 use Rattle.frame.specs.declared.Message.{Message}
-use Rattle.frame.specs.Message.{blank, lastCounter, stampOf, stamp, by}
+use Rattle.frame.specs.Message.{blank, stampOf, by}
 use Rattle.calls.specs.declared.Start.{Start}
 use Rattle.queue.specs.Queue.{Queue, clock, last, lastStamp, floorOf, waiting, phase}
 use Rattle.queue.specs.Calls.{view}
-use Rattle.queue.proofs.Good.{Sorted, le-clock}
-use Rattle.queue.proofs.Heard.{heard-at, at-heard}
+use Rattle.queue.proofs.Good.{Sorted}
 use Rattle.queue.proofs.Clocks.{last-none}
 use Rattle.post.specs.Record.{lastOf, waitingOf, floor, inSlots}
 use Rattle.post.specs.Calls.{viewOf}

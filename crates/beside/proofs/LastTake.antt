@@ -19,7 +19,7 @@ use Rattle.queue.proofs.Granted.{take-cast}
 use Rattle.queue.proofs.Grants.{marked-take}
 use Rattle.queue.proofs.Fitting.{Fitting, fitting-next}
 use Rattle.beside.specs.Demand2.{Accepted, FramesAreBytes}
-use Rattle.beside.specs.Records.{written}
+use Rattle.beside.specs.Tells.{written}
 use Rattle.beside.specs.Demand3.{history, messageIn, marks}
 use Rattle.beside.proofs.Demand2.{counters-fit}
 use Rattle.beside.proofs.Histories.{shows}

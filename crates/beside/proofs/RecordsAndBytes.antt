@@ -10,14 +10,14 @@ use Rattle.laws.specs.Below.{sumTo, one?, countTo}
 use Rattle.laws.proofs.Tests.{leb-total}
 use Rattle.laws.proofs.BelowLaws.{sumTo-cong}
 use Rattle.queue.specs.Queue.{grants, phase}
-use Rattle.queue.specs.Feeder.{Line, start, Feeder, Act, fresh, run, granted, holding}
+use Rattle.queue.specs.Feeder.{Line, start, LineFits, Feeder, Act, fresh, run, granted, holding}
 use Rattle.queue.specs.Demand3.{Demand3}
 use Rattle.queue.proofs.Runs.{ran-fresh}
 use Rattle.queue.proofs.Demand3.{strong, runs}
 use Rattle.post.specs.declared.Post.{Post}
 use Rattle.calls.proofs.Ranges.{Range, range-is}
 use Rattle.beside.specs.Image.{image}
-use Rattle.beside.specs.Records.{Boards, begun, runBoards, LineFits, RecordsAndBytes}
+use Rattle.beside.specs.Records.{Boards, begun, runBoards, RecordsAndBytes}
 use Rattle.beside.proofs.Boards.{Mirrors, mirrors-begun, matches-run}
 
 module _ (L : Line) (fits : LineFits L) (acts : List Act) where

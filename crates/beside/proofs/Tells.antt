@@ -27,7 +27,7 @@ use Rattle.queue.specs.Calls.{view, saying, say, accept, said, received, onQueu
 use Rattle.queue.proofs.Good.{Sorted, New, sorted-new}
 use Rattle.queue.proofs.Changes.{receives-new}
 use Rattle.queue.proofs.Parts.{keep-say-last, others-said, others-accepted, sender-accepted}
-use Rattle.beside.specs.Records.{written}
+use Rattle.beside.specs.Tells.{written}
 use Rattle.beside.specs.Demand3.{taken, messageIn, putAll}
 
 -- the messages that the call brought and the reply accepted

@@ -5,7 +5,7 @@ use Rattle.frame.specs.{declared.Message.{Message}, Message.{blank}, Frame.{fie
 use Rattle.calls.specs.{declared.Start.{Start}, Start.{starting, inRange}}
 use Rattle.calls.specs.Replies.{Call, own-call, receive-call, value-call, missing-call, Reply, worth, lacking, refusing}
 use Rattle.post.specs.{declared.Post.{Post}, Record.{fresh}, Sound.{sound}, Calls.{started, ownRows, receiveRows}}
-use Rattle.beside.specs.{OnRecord.{onRecord}, Records.{done}}
+use Rattle.beside.specs.{OnRecord.{onRecord}, Tells.{done}}
 
 -- the rows that a call goes by
 abbrev pub rowsOf : Post → Call → List Row

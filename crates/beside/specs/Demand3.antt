@@ -5,8 +5,8 @@ use Rattle.frame.specs.{declared.Message.{Message}, Message.{blank, isTake, isR
 use Rattle.calls.specs.declared.Start.{Start}
 use Rattle.calls.specs.Replies.{Call, own-call, receive-call, value-call, missing-call, Reply, Answer, after}
 use Rattle.post.specs.{declared.Post.{Post}, Record.{floor}}
-use Rattle.queue.specs.{Calls.{onQueue}, Feeder.{Line, start}, Demand3.{marked}}
-use Rattle.beside.specs.{OnRecord.{onRecord, startedPost}, Demand2.{Accepted, FramesAreBytes}, Records.{written, done, LineFits}}
+use Rattle.queue.specs.{Calls.{onQueue}, Feeder.{Line, start, LineFits}, Demand3.{marked}}
+use Rattle.beside.specs.{OnRecord.{onRecord, startedPost}, Tells.{written, done}, Demand2.{Accepted, FramesAreBytes}}
 
 -- ---- what can be seen of one board
 

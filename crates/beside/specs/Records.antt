@@ -1,10 +1,10 @@
 -- Demand 3 over records and bytes: posts that keep short records, and frames that travel as they were written.
-use Rattle.laws.specs.{Words.{Bool, false, not, cond, _&&_, List, [], _∷_, _++_, map, _≡_, ℕ, _+_, _≤_, _<_, T, ltb, eqb, length, take, drop}, Below.{sumTo, countTo}}
-use Rattle.frame.specs.Frame.{size, frame}
-use Rattle.calls.specs.{Start.{inRange}, Replies.{Call, own-call, receive-call, Reply, told, worth, lacking}}
+use Rattle.laws.specs.{Words.{Bool, false, not, cond, _&&_, List, [], _∷_, _++_, map, _≡_, ℕ, _+_, _≤_, _<_, ltb, eqb, length, drop}, Below.{sumTo, countTo}}
+use Rattle.frame.specs.Frame.{frame}
+use Rattle.calls.specs.Replies.{Call, own-call, receive-call}
 use Rattle.post.specs.declared.Post.{Post}
-use Rattle.queue.specs.{Queue.{grants}, Feeder.{Line, start, Act, own-at, deliver, buffer, fresh, sent, run, returnsSent}, Demand3.{marked, Demand3}}
-use Rattle.beside.specs.{Image.{image}, OnRecord.{onRecord, startedPost}}
+use Rattle.queue.specs.{Queue.{grants}, Feeder.{Line, start, LineFits, Act, own-at, deliver, buffer, fresh, sent, run, returnsSent}, Demand3.{marked, Demand3}}
+use Rattle.beside.specs.{Image.{image}, OnRecord.{onRecord, startedPost}, Tells.{written, done}}
 
 -- a post: its record, the frames it wrote, how many of each other's it has accepted, and how many grant marks its calls gave
 pub record Board : Type 0 where
@@ -18,17 +18,6 @@ Boards = ℕ → Board
 
 abbrev pub begun : Line → Boards
 begun L p = record { post = startedPost (start L p); wrote = []; accepted = λ r. 0; marks = 0 }
-
--- the first bytes of a reply that says that a frame was written
-abbrev pub written : Reply → List (List ℕ)
-written (told t) = cond (t .wrote) (take size (t .lent) ∷ []) []
-written (worth number value) = []
-written (lacking number set count) = []
-
-abbrev pub done : Reply → Bool
-done (told t) = eqb (t .number) 0
-done (worth number value) = eqb number 0
-done (lacking number set count) = eqb number 0
 
 -- a board after a call; from is the post whose frame it was offered, if any
 abbrev pub called : Board → Call → (ℕ → Bool) → Board
@@ -56,10 +45,6 @@ acted L s (deliver p q) = cond (ltb p (L .posts) && (ltb q (L .posts) && not (eq
 unfoldable pub runBoards : Line → Boards → List Act → Boards
 runBoards L s [] = s
 runBoards L s (a ∷ acts) = runBoards L (acted L s a) acts
-
--- N, K and the feeder are in range, for each post alike
-abbrev pub LineFits : Line → Type 0
-LineFits L = (p : ℕ) → p < L .posts → T (inRange (start L p))
 
 -- the boards of a run beside the full queues of the same run
 pub record Beside (L : Line) (acts : List Act) : Type 0 where

@@ -1,5 +1,5 @@
 -- A frame has one meaning, and a message has one frame: the proofs of `specs/Demand2`. Assumes nothing.
-use Prim.Native.Nat.{ℕ, _<_, _^_}
+use Prim.Native.Nat.{ℕ, _<_}
 use mathlib.Core.Path.{_≡_, refl, ap, _∙_, sym}
 use mathlib.Core.Bool.{Bool, true, false, cond}
 use mathlib.Core.List.{List, [], _∷_}
@@ -9,7 +9,7 @@ use lib.ListN.{length, take, drop}
 use lib.Seq.{take-at}
 use Rattle.laws.specs.Big.{Bytes, fieldsIn, fieldBytes}
 use Rattle.laws.specs.Ladder.{refusal}
-use Rattle.laws.proofs.BigLaws.{fields-back, only-fields}
+use Rattle.laws.proofs.BigLaws.{fields-back, only-fields, bytes-fields}
 use Rattle.laws.proofs.Ladders.{on, quiet, unrefused}
 use Rattle.frame.specs.declared.Message.{Message}
 use Rattle.frame.specs.declared.Fields.{Fields}
@@ -24,6 +24,11 @@ back f m h e =
     ap (λ (v : List ℕ). reading (refusal (readRows size (fieldsFrom v))) (fieldsFrom v))
     (fields-back widths vs (lit< tt, (lit< tt, (h .feeder, (h .kind, (h .sender, (h .counter, tt)))))))
     ∙ sym (on (eqb (refusal (messageRows m)) 0) _ _ (eq-eqb _ 0 e) refl)
+
+-- a frame is bytes
+pub bytes-frame : (f : ℕ) (m : Message) → Bytes (frame f m)
+unfolding frame
+bytes-frame f m = bytes-fields widths (mark ∷ 1 ∷ f ∷ m .kind ∷ m .sender ∷ m .counter ∷ [])
 
 length-frame : (f : ℕ) (m : Message) → length (frame f m) ≡ size
 unfolding frame

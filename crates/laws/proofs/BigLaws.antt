@@ -5,7 +5,7 @@ use mathlib.Core.Path.{_≡_, refl, ap, ap₂, _∙_, sym, subst}
 use mathlib.Core.List.{List, [], _∷_, _++_}
 use native.Mathlib.Omega.{arith}
 use native.Mathlib.Numerals.{add-one}
-use native.Mathlib.Nat.{pow-suc, mul-comm, mul-assoc, mod-one, mod-eq-of-lt, add-mul}
+use native.Mathlib.Nat.{pow-suc, mul-comm, mul-assoc, mod-one, mod-lt, mod-eq-of-lt, add-mul}
 use lib.Arith.{mod-mul, digits-div, digits-mod, digits-lt}
 use lib.Dec.{lit<}
 use lib.ListN.{length, getD, take, drop, take-append-drop, length-append, length-drop}
@@ -77,6 +77,20 @@ bytes-take : (n : ℕ) (s : List ℕ) → Bytes s → Bytes (take n s)
 bytes-take zero s h = tt
 bytes-take (suc n) [] h = tt
 bytes-take (suc n) (b ∷ s) h = (h .0, bytes-take n s (h .1))
+
+-- what is laid out is bytes
+bytes-toBe : (w v : ℕ) → Bytes (toBe w v)
+bytes-toBe zero v = tt
+bytes-toBe (suc w) v = (mod-lt (v / 256 ^ w) (omega arith), bytes-toBe w v)
+
+pub bytes-append : (s t : List ℕ) → Bytes s → Bytes t → Bytes (s ++ t)
+bytes-append [] t x y = y
+bytes-append (b ∷ s) t x y = (x .0, bytes-append s t (x .1) y)
+
+pub bytes-fields : (ws vs : List ℕ) → Bytes (fieldBytes ws vs)
+bytes-fields [] vs = tt
+bytes-fields (w ∷ ws) [] = tt
+bytes-fields (w ∷ ws) (v ∷ vs) = bytes-append (toBe w v) (fieldBytes ws vs) (bytes-toBe w v) (bytes-fields ws vs)
 
 pub bytes-drop : (n : ℕ) (s : List ℕ) → Bytes s → Bytes (drop n s)
 bytes-drop zero s h = h

@@ -15,6 +15,7 @@ pub mod IntLaws  -- differences
 pub mod ListLaws  -- lists: members, tests, beginnings
 pub mod CountLaws  -- how many pass a test
 pub mod Counting  -- .. up to a member
+pub mod PlaceLaws  -- .. by places
 pub mod RisingLaws  -- lists that rise by a key
 pub mod LeadingLaws  -- what comes before the first key above a number
 pub mod ScanLaws  -- one turn of a loop

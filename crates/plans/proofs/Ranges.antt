@@ -1,23 +1,24 @@
 -- A header's posts are accepted starts, a command's posts are among them, and the counter of a frame on the way fits. Assumes nothing.
 use mathlib.Core.Bool.{Bool, not, _&&_}
-use mathlib.Core.List.{List, [], _∷_, _++_}
-use Prim.Native.Nat.{ℕ, zero, suc, _/_, _^_, _≤_, _<_}
+use mathlib.Core.List.{List}
+use Prim.Native.Nat.{ℕ, _≤_, _<_}
 use native.Mathlib.Omega.{arith}
-use native.Mathlib.Nat.{mod-lt}
 use lib.Dec.{T, leb, ltb, eqb, ltb→lt, leb→le}
 use lib.ListN.{drop}
-use Rattle.laws.specs.Big.{Bytes, toBe, fieldBytes}
+use Rattle.laws.specs.Big.{Bytes}
 use Rattle.laws.specs.Below.{allTo}
 use Rattle.laws.specs.Lists.{keep, all}
 use Rattle.laws.specs.Search.{same, from, pairs}
 use Rattle.laws.proofs.Tests.{cond-both, and-l, and-r}
+use Rattle.laws.proofs.BigLaws.{bytes-append}
 use Rattle.laws.proofs.BelowLaws.{allTo-at}
 use Rattle.laws.proofs.ListLaws.{keep-in}
 use Rattle.laws.proofs.ScanLaws.{all-at}
 use Rattle.laws.proofs.SearchLaws.{first-has}
 use Rattle.frame.specs.declared.Message.{Message}
 use Rattle.frame.specs.Message.{lastCounter}
-use Rattle.frame.specs.Frame.{mark, widths, frame, over, fieldsOf, writeNo, bytesAfter}
+use Rattle.frame.specs.Frame.{size, frame, over, fieldsOf, writeNo, bytesAfter}
+use Rattle.frame.proofs.Frames.{bytes-frame}
 use Rattle.frame.proofs.FrameFields.{counter-fits}
 use Rattle.calls.specs.Start.{starting, inRange}
 use Rattle.bench.specs.declared.lines.Header.{Header}
@@ -82,23 +83,6 @@ command-within n line =
 
 -- ---- frames
 
-bytes-toBe : (w v : ℕ) → Bytes (toBe w v)
-bytes-toBe zero v = tt
-bytes-toBe (suc w) v = (mod-lt (v / 256 ^ w) (omega arith), bytes-toBe w v)
-
-bytes-append : (s t : List ℕ) → Bytes s → Bytes t → Bytes (s ++ t)
-bytes-append [] t x y = y
-bytes-append (b ∷ s) t x y = (x .0, bytes-append s t (x .1) y)
-
-bytes-fields : (ws vs : List ℕ) → Bytes (fieldBytes ws vs)
-bytes-fields [] vs = tt
-bytes-fields (w ∷ ws) [] = tt
-bytes-fields (w ∷ ws) (v ∷ vs) = bytes-append (toBe w v) (fieldBytes ws vs) (bytes-toBe w v) (bytes-fields ws vs)
-
-bytes-frame : (f : ℕ) (m : Message) → Bytes (frame f m)
-unfolding frame
-bytes-frame f m = bytes-fields widths (mark ∷ 1 ∷ f ∷ m .kind ∷ m .sender ∷ m .counter ∷ [])
-
 bytes-lent : Bytes lent
 bytes-lent = omega arith
 
@@ -106,7 +90,7 @@ bytes-after : (f : ℕ) (m : Message) → Bytes (bytesAfter lent f m)
 unfolding bytesAfter
 bytes-after f m =
     cond-both Bytes (eqb (writeNo lent m) 0) (over f m lent) lent
-    (λ y. bytes-append (frame f m) (drop 12 lent) (bytes-frame f m) tt)
+    (λ y. bytes-append (frame f m) (drop size lent) (bytes-frame f m) tt)
     (λ n. bytes-lent)
 
 pub sent-fits : (f : ℕ) (m : Message) → fieldsOf (bytesAfter lent f m) .message .counter ≤ lastCounter

@@ -16,6 +16,7 @@ use Rattle.laws.specs.Below.{one?}
 use Rattle.laws.specs.Search.{from}
 use Rattle.laws.proofs.Tests.{test, cond-both, and-l, and-r, neqb→ne, leb-total}
 use Rattle.laws.proofs.BelowLaws.{sumTo-cong}
+use Rattle.laws.proofs.PlaceLaws.{many-first, mapped-at}
 use Rattle.frame.specs.declared.Message.{Message}
 use Rattle.frame.specs.Message.{blank, by}
 use Rattle.frame.specs.Frame.{fieldsOf, bytesAfter}
@@ -42,7 +43,6 @@ use Rattle.plans.specs.Night.{Night, Ran, handedBack, nextOf, passed, re
 use Rattle.plans.specs.Output.{inPhases, closing, answersTo, nightFrom, outputOver}
 use Rattle.plans.specs.Same.{BenchIsBasic}
 use Rattle.plans.proofs.Ranges.{header-few, Within, command-within}
-use Rattle.plans.proofs.Counts.{many-first, mapped-at}
 
 -- what is found stands in the list
 seek-found : (p i : ℕ) (l : List Message) → seek p i l < 256 → (seek p i l < i + length l) × (0 < length l)

@@ -1,7 +1,7 @@
 -- A feeder: posts 0 to N - 1, each by its full queue, and runs of takes, returns and deliveries.
-use Rattle.laws.specs.{Words.{not, cond, _&&_, List, [], _∷_, ℕ, ltb, eqb, length, drop, replicate}, Lists.{keep, many}, Below.{sumTo, countTo}}
+use Rattle.laws.specs.{Words.{not, cond, _&&_, List, [], _∷_, ℕ, _<_, T, ltb, eqb, length, drop, replicate}, Lists.{keep, many}, Below.{sumTo, countTo}}
 use Rattle.frame.specs.{declared.Message.{Message}, Message.{isReturn, by}, Frame.{size, frame}}
-use Rattle.calls.specs.{declared.Start.{Start}, Own.{Own}, Replies.{Call, own-call, receive-call}}
+use Rattle.calls.specs.{declared.Start.{Start}, Start.{inRange}, Own.{Own}, Replies.{Call, own-call, receive-call}}
 use Rattle.queue.specs.{Queue.{Queue, grants, phase}, Calls.{onQueue}}
 
 -- what the posts of a feeder are started with alike
@@ -13,6 +13,10 @@ pub record Line : Type 0 where
 -- each under its own number
 abbrev pub start : Line → ℕ → Start
 start L p = record { posts = L .posts; own = p; feeder = L .feeder; places = L .places }
+
+-- N, K and the feeder are in range, for each post alike
+abbrev pub LineFits : Line → Type 0
+LineFits L = (p : ℕ) → p < L .posts → T (inRange (start L p))
 
 -- each post's queue, by its number
 abbrev pub Feeder : Type 0
