@@ -12,7 +12,7 @@ use frame::Message;
 use post::{Answer, Post};
 
 // What a call handed back, and the message in the bytes lent to it.
-#[derive(Drop)]
+#[derive(Clone, Copy)]
 pub(crate) struct Called {
     pub answer: Answer,
     pub message: Message,
@@ -20,7 +20,7 @@ pub(crate) struct Called {
 
 // What a command comes to: the record of the post that it calls, the message at place `to` of those sent, how many these are, how far the pair
 // has read, and what is given back. What does not change is as it stood.
-#[derive(Drop)]
+#[derive(Clone, Copy)]
 pub(crate) struct Change {
     pub post: Post,
     pub to: usize,

@@ -1,4 +1,6 @@
 // The bench as a library: bytes of a night in, bytes of its answers out.
+#![tactic(auto)]
+
 mod commands;
 mod lines;
 mod writing;
@@ -13,14 +15,14 @@ pub use lines::{Command, Header};
 use post::Post;
 
 // The line being read: its first 8 bytes, and how many of these there are. No text of a command or header has 8.
-#[derive(Drop)]
+#[derive(Clone, Copy)]
 pub struct Line {
     pub bytes: [u8; 8],
     pub len: u8,
 }
 
 // A night: the records, the messages sent, and for each pair of posts (p, q), at 16 * p + q, how far q has read of them.
-#[derive(Drop)]
+#[derive(Clone, Copy)]
 pub struct Night {
     pub posts: [Post; 16],
     pub sent: [Message; 256],
@@ -29,7 +31,7 @@ pub struct Night {
     pub read: [u16; 256],
 }
 
-#[derive(Drop)]
+#[derive(Clone, Copy)]
 pub struct Bench {
     pub night: Night,
     // the header's N and K
@@ -43,7 +45,7 @@ pub struct Bench {
 }
 
 // What feeding hands back.
-#[derive(Drop)]
+#[derive(Clone, Copy)]
 pub struct Fed {
     pub bench: Bench,
     pub used: usize,
@@ -52,14 +54,14 @@ pub struct Fed {
 }
 
 // What the end of the input came to; not done where there was not enough room.
-#[derive(Drop)]
+#[derive(Clone, Copy)]
 pub struct Finished {
     pub written: usize,
     pub done: bool,
 }
 
 // The bench after a whole line, and the place after what it wrote.
-#[derive(Drop)]
+#[derive(Clone, Copy)]
 pub(crate) struct Turned {
     pub bench: Bench,
     pub at: usize,

@@ -8,7 +8,7 @@ ghost use Rattle.bench.specs.Inside.{digit, number_at, after_at, guess_header, g
 use crate::{Line, writing};
 
 // What a line asks for.
-#[derive(Drop)]
+#[derive(Clone, Copy)]
 pub enum Command {
     Take(u8),
     Return(u8),
@@ -19,7 +19,7 @@ pub enum Command {
 }
 
 // What a first line says; zeros where it is no header.
-#[derive(Drop)]
+#[derive(Clone, Copy)]
 pub struct Header {
     pub posts: u8,
     pub places: u8,

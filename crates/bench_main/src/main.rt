@@ -1,4 +1,6 @@
 // The bench program: reads a night as it comes, and writes its answers.
+#![tactic(auto)]
+
 ghost use Rattle.std.specs.Prelude.{◌≡◌, ◌≤◌, length};
 
 use bench::Bench;

@@ -1,5 +1,7 @@
 // What a post is started with, for the record and for those who start it.
-#[derive(Drop)]
+#![tactic(auto)]
+
+#[derive(Clone, Copy)]
 pub struct Start {
     // how many posts the feeder has, and which one this is
     pub posts: u8,

@@ -1,4 +1,6 @@
 // Numbers in lent bytes, high byte first, of any width up to 8.
+#![tactic(auto)]
+
 ghost use Rattle.std.specs.Prelude.{◌≡◌};
 ghost use Rattle.fields.specs.Field.{lies, field_at, with_field};
 

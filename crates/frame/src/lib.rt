@@ -1,4 +1,6 @@
 // Frames: what a message is, and how it is read and written.
+#![tactic(auto)]
+
 ghost use Rattle.std.specs.Prelude.{◌≡◌, ◌≤◌, ◌++◌, length, drop};
 ghost use Rattle.laws.specs.Ladder.{refusal};
 ghost use Rattle.frame.specs.Message.{msg};
@@ -12,7 +14,7 @@ pub const RETURN: u8 = 2;
 pub const ACK: u8 = 3;
 
 // A message: its kind, and its stamp of counter and sender.
-#[derive(Drop)]
+#[derive(Clone, Copy)]
 pub struct Message {
     pub kind: u8,
     pub sender: u8,
@@ -27,7 +29,7 @@ pub const BLANK: Message = Message {
 };
 
 // What stands in the fields of a frame, good or bad.
-#[derive(Drop)]
+#[derive(Clone, Copy)]
 pub struct Fields {
     pub mark: u32,
     pub version: u16,
@@ -36,7 +38,7 @@ pub struct Fields {
 }
 
 // What reading a frame gives: the refusal number, and what the frame says, zeros where it is refused.
-#[derive(Drop)]
+#[derive(Clone, Copy)]
 pub struct Reading {
     pub number: u8,
     pub feeder: u8,

@@ -1,4 +1,6 @@
 // The nights program: runs the bench on each stored night that an argument names, and says whether it writes what is stored.
+#![tactic(auto)]
+
 ghost use Rattle.std.specs.Prelude.{◌≡◌, true, ◌||◌, ◌≤◌, leb};
 ghost use Rattle.bench.specs.Output.{output};
 ghost use Rattle.io.specs.Counts.{IsPrefixLen};
@@ -7,7 +9,7 @@ use bench::Bench;
 use libc::STDOUT_FILENO;
 
 // A file that was read: how many bytes it has, and whether these are all.
-#[derive(Drop)]
+#[derive(Clone, Copy)]
 struct File {
     len: usize,
     whole: bool,
@@ -68,7 +70,7 @@ fn load(path: &[u8], buf: &mut [u8]) -> File
 }
 
 // What came of a night.
-#[derive(Drop)]
+#[derive(Clone, Copy)]
 enum Outcome {
     Same,
     Differs,

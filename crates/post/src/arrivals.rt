@@ -14,7 +14,7 @@ use crate::{LAST, Post, slots};
 use frame::Message;
 
 // What a look at a frame finds: the refusal, and the message where there is none.
-#[derive(Drop)]
+#[derive(Clone, Copy)]
 pub(crate) struct Arrival {
     pub number: u8,
     pub message: Message,

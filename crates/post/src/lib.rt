@@ -1,4 +1,6 @@
 // The post's short record and its calls.
+#![tactic(auto)]
+
 mod arrivals;
 mod lasts;
 mod messages;
@@ -22,7 +24,7 @@ use calls::Start;
 use frame::Message;
 
 // Document 01's record, its fields in 01's order and widths.
-#[derive(Drop)]
+#[derive(Clone, Copy)]
 pub struct Post {
     pub posts: u8,
     pub own: u8,
@@ -43,14 +45,14 @@ pub struct Post {
 }
 
 // What a start hands back.
-#[derive(Drop)]
+#[derive(Clone, Copy)]
 pub struct Started {
     pub post: Post,
     pub number: u8,
 }
 
 // What a take, a return or a receive hands back.
-#[derive(Drop)]
+#[derive(Clone, Copy)]
 pub struct Answer {
     pub post: Post,
     pub number: u8,
@@ -58,13 +60,13 @@ pub struct Answer {
     pub granted: bool,
 }
 
-#[derive(Drop)]
+#[derive(Clone, Copy)]
 pub struct Value {
     pub number: u8,
     pub value: i64,
 }
 
-#[derive(Drop)]
+#[derive(Clone, Copy)]
 pub struct Missing {
     pub number: u8,
     // bit r for post r

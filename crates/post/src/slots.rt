@@ -11,7 +11,7 @@ use crate::stamp;
 use frame::Message;
 
 // What a look over the slots finds of the messages that wait there.
-#[derive(Drop)]
+#[derive(Clone, Copy)]
 pub(crate) struct Seen {
     // each is fair, the stamps rise above the floor, and the other slots are zero
     pub orderly: bool,
@@ -123,7 +123,7 @@ pub(crate) fn look(
 }
 
 // What of the first n is settled: how many, and the counts with it.
-#[derive(Drop)]
+#[derive(Clone, Copy)]
 pub(crate) struct Gone {
     pub count: usize,
     pub takes: u64,

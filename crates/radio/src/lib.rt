@@ -1,4 +1,6 @@
 // The two functions that the radio firmware calls from C: include/fpm.h. Nothing but the calls.
+#![tactic(auto)]
+
 ghost use Rattle.frame.specs.Message.{msg};
 ghost use Rattle.frame.specs.Frame.{Written};
 ghost use Rattle.radio.specs.Radio.{Read};
