@@ -1,0 +1,23 @@
+use borrow.Author.Rules.{rules}
+use Prim.Native.Nat.{ℕ}
+use mathlib.Core.Path.{◌∙◌, ap}
+use lib.ListN.{set}
+use Rattle.post.specs.Record.{waiting_of, remade}
+use Rattle.post.specs.Inside.{noted}
+use Rattle.post.proofs.Sound.Facts.{sound_has}
+use Rattle.post.proofs.Fields.Shape.{Kept}
+use Rattle.laws.proofs.ListLaws.{length_mapped}
+use Rattle.post.proofs.Works.Remaking.{without_message}
+use Rattle.post.proofs.Post.noted.Goals as goal
+
+pub bounds-self-from : goal.bounds-self-from
+bounds-self-from c = let b = (sound_has _ c.requires.0).range.posts_high in let m = c.requires.1 in search rules
+
+pub returns : goal.returns
+unfolding noted
+returns c =
+    let p = c.args.self in
+    let m = c.args.m in
+    let z : Kept p = record { sound = c.requires.0; shape = record { last = search rules; slots = search (length_mapped, rules) }; width = search rules } in
+    without_message p z _ _
+    ∙ ap (λ (x : ℕ). remade p x (set p.last m.sender m.counter) (waiting_of p) p.phase p.order) c.larger-c.ensures
