@@ -1,0 +1,17 @@
+use borrow.Author.Rules.{rules}
+use Prim.Native.Nat.{◌-◌, ◌≤◌}
+use mathlib.Core.Path.{◌≡◌, refl, ◌∙◌}
+use mathlib.Core.List.{map}
+use native.Mathlib.Omega.{arith}
+use lib.ListN.{length, take, replicate, length-set}
+use Rattle.frame.specs.Message.{blank}
+use Rattle.laws.specs.Search.{from}
+use Rattle.bench.specs.Night.{opened, begun}
+use Rattle.laws.proofs.SearchLaws.{fill_one, fill_all}
+use Rattle.bench.proofs.commands.begin.Given as goal
+
+abbrev pub invariant-loop-p : goal.invariant-loop-p
+invariant-loop-p l = (l.p ≤ 16) × (length l.posts ≡ 16) × (take l.p l.posts ≡ map (opened l.n l.k) (from 0 l.p))
+
+abbrev pub decreases-loop-p : goal.decreases-loop-p
+decreases-loop-p l = 16 - l.p

@@ -1,0 +1,6 @@
+use borrow.Author.Rules.{rules}
+use Rattle.bench.proofs.Nights.{unchanged}
+use Rattle.bench.proofs.commands.refused.Goals as goal
+
+pub returns : goal.returns
+returns c = λ at pair. unchanged _ _ _ _ _ at pair

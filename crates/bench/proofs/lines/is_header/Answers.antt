@@ -1,0 +1,26 @@
+-- The header's text is put into a buffer of its own, which has room for it, and compared. Assumes nothing.
+use borrow.Author.Rules.{rules}
+use Prim.Native.Nat.{ℕ}
+use mathlib.Core.Path.{ap, ◌∙◌, sym}
+use mathlib.Core.List.{List}
+use native.Mathlib.Omega.{arith}
+use lib.Seq.{length-take-le}
+use Rattle.laws.specs.Search.{same}
+use Rattle.bench.specs.Lines.{kept, header_text}
+use Rattle.text.proofs.Putting.{stands_first}
+use Rattle.bench.proofs.Lengths.{pair_few}
+use Rattle.bench.proofs.lines.is_header.Goals as goal
+
+pub slice_bounds-bytes-end : goal.slice_bounds-bytes-end
+slice_bounds-bytes-end c = let l = pair_few c.args.h.posts c.args.h.places in let n = (stands_first c.pair-n.ensures l).0 in omega arith
+
+pub slice_bounds-is_text-end : goal.slice_bounds-is_text-end
+slice_bounds-is_text-end c =
+    let l = pair_few c.args.h.posts c.args.h.places in
+    let p = c.pair-n in
+    let n = (stands_first p.ensures l).0 in
+    sym (length-take-le p.result p.new.out (omega arith))
+
+pub returns : goal.returns
+unfolding header_text
+returns c = c.is_text.ensures ∙ ap (λ (s : List ℕ). same s (kept c.args.line)) (stands_first c.pair-n.ensures (pair_few c.args.h.posts c.args.h.places)).1

@@ -1,0 +1,7 @@
+-- It is one word. Assumes nothing.
+use borrow.Author.Rules.{rules}
+use Rattle.text.proofs.Putting.{lays}
+use Rattle.bench.proofs.writing.bad_header.Goals as goal
+
+pub returns : goal.returns
+returns c = lays c.word.ensures
