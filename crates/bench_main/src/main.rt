@@ -1,18 +1,19 @@
 // The bench program: reads a night as it comes, and writes its answers.
 #![tactic(auto)]
 
-ghost use Rattle.std.specs.Prelude.{◌≡◌, ◌≤◌, length};
+ghost use Rattle.std.specs.Prelude.{◌≤◌, length, IfOk};
 
 use bench::Bench;
-use libc::{STDIN_FILENO, STDOUT_FILENO};
+use std::io;
+use std::io::{Read, Write};
 
 // Reads behind the first `len` bytes, and answers how many there are then.
-fn read_on(buf: &mut [u8], len: usize) -> usize
+fn read_on<R: Read>(input: &mut R, buf: &mut [u8], len: usize) -> io::Result<usize>
     requires { len ≤ length buf.old }
-    ensures { (len ≤ result) × (result ≤ length buf.new) × (length buf.new ≡ length buf.old) }
+    ensures { IfOk result (λ end. (len ≤ end) × (end ≤ length buf.new)) }
 {
-    let got = libc::read(STDIN_FILENO, &mut buf[len..]);
-    len + io::count(got, &buf[len..])
+    let got = input.read(&mut buf[len..])?;
+    Ok(len + got)
 }
 
 // What is read is to be fed: from `len` on it ends a line or the input, fills the buffer, or is of line 257, which its first byte ends.
@@ -28,19 +29,21 @@ fn is_due(buf: &[u8], len: usize, end: usize, number: u16) -> bool
     if number == Bench::COMMANDS {
         return true;
     }
-    bytes::scan::find(buf, len, end, b'\n') < end
+    buf[len..end].contains(&b'\n')
 }
 
-fn finish(bench: Bench) {
+fn finish<W: Write>(bench: Bench, output: &mut W) -> io::Result<()> {
     let mut out = [0u8; 64];
     let f = bench.finish(&mut out);
     let written = f.written;
-    io::write_all(STDOUT_FILENO, &out[..written]);
+    output.write_all(&out[..written])
 }
 
 // Feeding hands the whole bench on by value, so part of a line waits in the buffer for the rest.
 // Nothing says that the input ends, so the turns are counted down from a number that no run uses up.
-fn main() {
+fn main(rt: HostRuntime) -> io::Result<()> {
+    let mut input = rt.stdin();
+    let mut output = rt.stdout();
     let mut bench = Bench::new();
     let mut buf = [0u8; 4096];
     let mut out = [0u8; 4096];
@@ -49,7 +52,7 @@ fn main() {
     let mut turns = u64::MAX;
     while turns > 0 {
         turns -= 1;
-        let end = read_on(&mut buf, len);
+        let end = read_on(&mut input, &mut buf, len)?;
         if !is_due(&buf, len, end, bench.number) {
             len = end;
             continue;
@@ -61,15 +64,13 @@ fn main() {
             let written = f.written;
             let next = f.bench;
             bench = next;
-            if !io::write_all(STDOUT_FILENO, &out[..written]) {
-                return;
-            }
+            output.write_all(&out[..written])?;
             if f.over {
-                return;
+                return Ok(());
             }
             // A bench that is not over uses a byte wherever there is so much room.
             if used == 0 {
-                return;
+                return Ok(());
             }
             at += used;
         }
@@ -78,5 +79,5 @@ fn main() {
         }
         len = 0;
     }
-    finish(bench);
+    finish(bench, &mut output)
 }

@@ -1,12 +1,14 @@
 // The nights program: runs the bench on each stored night that an argument names, and says whether it writes what is stored.
 #![tactic(auto)]
 
-ghost use Rattle.std.specs.Prelude.{◌≡◌, true, ◌||◌, ◌≤◌, leb};
+ghost use Rattle.std.specs.Prelude.{◌≡◌, true, ◌||◌, ◌≤◌, leb, length, IfOk};
 ghost use Rattle.bench.specs.Output.{output};
-ghost use Rattle.io.specs.Counts.{IsPrefixLen};
 
 use bench::Bench;
-use libc::STDOUT_FILENO;
+use std::env::{Env, FillError};
+use std::io::{Read, Write};
+use std::rt::Files;
+use std::{fs, io};
 
 // A file that was read: how many bytes it has, and whether these are all.
 #[derive(Clone, Copy)]
@@ -49,23 +51,37 @@ fn holds(input: &[u8], want: &[u8]) -> bool
 }
 
 // Reads a file that fits the buffer.
-fn load(path: &[u8], buf: &mut [u8]) -> File
-    ensures { IsPrefixLen result.len buf.new }
+fn fill<R: Read>(file: &mut R, buf: &mut [u8]) -> File
+    ensures { result.len ≤ length buf.new }
 {
-    let fd = os::open_read(path);
-    if fd < 0 {
-        return File {
-            len: 0,
-            whole: false,
-        };
+    let mut len = 0;
+    while len < buf.len() {
+        match file.read(&mut buf[len..]) {
+            Ok(0) => return File { len, whole: true },
+            Ok(n) => len += n,
+            Err(_) => return File { len, whole: false },
+        }
     }
-    let len = io::read_full(fd, buf);
     let mut more = [0u8; 1];
-    let got = libc::read(fd, &mut more);
-    libc::close(fd);
-    File {
-        len,
-        whole: got == 0,
+    match file.read(&mut more) {
+        Ok(0) => File { len, whole: true },
+        _ => File { len, whole: false },
+    }
+}
+
+fn load<R: Files>(rt: &R, path: &[u8], buf: &mut [u8]) -> File
+    ensures { result.len ≤ length buf.new }
+{
+    let none = File {
+        len: 0,
+        whole: false,
+    };
+    match std::str::from_utf8(path) {
+        Ok(path) => match fs::open(rt, path) {
+            Ok(mut file) => fill(&mut file, buf),
+            Err(_) => none,
+        },
+        Err(_) => none,
     }
 }
 
@@ -79,7 +95,7 @@ enum Outcome {
 }
 
 // The night NAME: NAME.in is what the bench reads, NAME.out what it is to write.
-fn try_night(whole: [u8; 256], n: usize) -> Outcome {
+fn try_night<R: Files>(rt: &R, whole: [u8; 256], n: usize) -> Outcome {
     let mut input = [0u8; 8192];
     let mut want = [0u8; 8192];
     let mut name = whole;
@@ -89,11 +105,11 @@ fn try_night(whole: [u8; 256], n: usize) -> Outcome {
     name[n] = b'.';
     name[n + 1] = b'i';
     name[n + 2] = b'n';
-    let f = load(&name[..n + 3], &mut input);
+    let f = load(rt, &name[..n + 3], &mut input);
     name[n + 1] = b'o';
     name[n + 2] = b'u';
     name[n + 3] = b't';
-    let g = load(&name[..n + 4], &mut want);
+    let g = load(rt, &name[..n + 4], &mut want);
     if !f.whole {
         return Outcome::Unread;
     }
@@ -108,39 +124,42 @@ fn try_night(whole: [u8; 256], n: usize) -> Outcome {
     Outcome::Differs
 }
 
-// Writes the name of the night that argument i gives, and what came of it; 1 where it is the same.
-fn night(i: usize) -> u64
-    ensures { result ≤ 1 }
+// Writes the name of the night, and what came of it; 1 where it is the same.
+fn night<R: Files, W: Write>(rt: &R, output: &mut W, name: [u8; 256], n: usize) -> io::Result<u64>
+    requires { n ≤ 256 }
+    ensures { IfOk result (λ k. k ≤ 1) }
 {
-    let mut name = [0u8; 256];
-    let n = os::arg(i, &mut name);
-    io::write_all(STDOUT_FILENO, &name[..n]);
-    match try_night(name, n) {
+    output.write_all(&name[..n])?;
+    match try_night(rt, name, n) {
         Outcome::Same => {
-            io::write_all(STDOUT_FILENO, b" same\n");
-            1
+            output.write_all(b" same\n")?;
+            Ok(1)
         }
         Outcome::Differs => {
-            io::write_all(STDOUT_FILENO, b" differs\n");
-            0
+            output.write_all(b" differs\n")?;
+            Ok(0)
         }
         Outcome::Unread => {
-            io::write_all(STDOUT_FILENO, b" cannot be read\n");
-            0
+            output.write_all(b" cannot be read\n")?;
+            Ok(0)
         }
     }
 }
 
-fn main() {
-    let nights = os::arg_count();
+fn main(rt: HostRuntime) -> io::Result<()> {
+    let mut output = rt.stdout();
     let mut same = 0u64;
     let mut i = 1;
-    while i < nights {
-        same += night(i);
+    while i < usize::MAX {
+        let mut name = [0u8; 256];
+        let n = match rt.arg(i, &mut name) {
+            Ok(n) => n,
+            Err(FillError::TooLong) => 0,
+            Err(FillError::NotPresent) => break,
+        };
+        same += night(&rt, &mut output, name, n)?;
         i += 1;
     }
-    io::print_decimal(STDOUT_FILENO, same);
-    io::write_all(STDOUT_FILENO, b" of ");
-    io::print_decimal(STDOUT_FILENO, (i - 1) as u64);
-    io::write_all(STDOUT_FILENO, b" nights are the same\n");
+    let nights = i - 1;
+    println!(rt; "{same} of {nights} nights are the same")
 }
