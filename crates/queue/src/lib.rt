@@ -1,3 +1,2 @@
 // The full message queue of a post, its calls, and feeders of such posts: definitions and laws. No code.
 #![tactic(auto)]
-

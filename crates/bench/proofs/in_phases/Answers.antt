@@ -1,15 +1,12 @@
 -- Those counted and those to come are all. Assumes nothing.
 use borrow.Author.Rules.{rules}
-use Prim.Native.Nat.{ℕ, ◌+◌, ◌≤◌, ◌-◌}
+use Prim.Native.Nat.{◌+◌, ◌≤◌}
 use mathlib.Core.Path.{◌≡◌, ap}
-use mathlib.Core.Bool.{Bool, ◌&&◌}
 use native.Mathlib.Omega.{arith}
-use lib.Dec.{leb}
 use lib.ListN.{length, get_or, drop, drop_of_length-le}
 use Rattle.laws.specs.Lists.{keep, many}
 use Rattle.laws.proofs.ListLaws.{many_cons}
 use Rattle.laws.proofs.ScanLaws.{next_drop, many-length}
-use Rattle.post.specs.declared.Post.{Post}
 use Rattle.laws.proofs.ListLaws.{length_mapped}
 use Rattle.bench.specs.Bench.{in_phases}
 use Rattle.bench.proofs.Nights.{absent}

@@ -1,17 +1,10 @@
-use borrow.Author.Rules.{rules}
 use Prim.Native.Nat.{ℕ, ◌+◌, ◌≤◌, ◌-◌}
-use mathlib.Core.Path.{◌≡◌, ap}
+use mathlib.Core.Path.{◌≡◌}
 use mathlib.Core.Bool.{Bool, ◌&&◌}
-use native.Mathlib.Omega.{arith}
 use lib.Dec.{leb}
-use lib.ListN.{length, get_or, drop, drop_of_length-le}
-use Rattle.laws.specs.Lists.{keep, many}
-use Rattle.laws.proofs.ListLaws.{many_cons}
-use Rattle.laws.proofs.ScanLaws.{next_drop, many-length}
+use lib.ListN.{drop}
+use Rattle.laws.specs.Lists.{many}
 use Rattle.post.specs.declared.Post.{Post}
-use Rattle.laws.proofs.ListLaws.{length_mapped}
-use Rattle.bench.specs.Bench.{in_phases}
-use Rattle.bench.proofs.Nights.{absent}
 use Rattle.bench.proofs.in_phases.Given as goal
 
 abbrev pub within : ℕ → ℕ → Post → Bool

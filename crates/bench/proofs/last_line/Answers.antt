@@ -1,5 +1,4 @@
 -- The posts counted are those of the night. Assumes nothing.
-use borrow.Author.Rules.{rules}
 use Prim.Native.Nat.{ℕ}
 use mathlib.Core.Path.{ap₂}
 use Rattle.text.proofs.Putting.{reworded}

@@ -1,9 +1,8 @@
 -- With `left` bytes to come, n is the number of those before them. It is below 256 to their number, so with one byte more it still fits 64 bits.
 -- Assumes nothing.
-use borrow.Author.Rules.{rules, Fits-under}
+use borrow.Author.Rules.{rules}
 use mir.Val.{Fits}
 use mir.Syntax.{w64}
-use borrow.Author.Tests.{not-true, not-false}
 use denote.Floats.{passes}
 use native.Mathlib.Omega.{arith}
 use native.Mathlib.Nat.{pow-suc, pow-le-pow_right, le_trans}

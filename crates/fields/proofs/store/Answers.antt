@@ -1,7 +1,6 @@
 -- The lowest byte goes in first, at the end of the field. After `done` turns the last `done` places have that many of the lowest bytes of n,
 -- and `rest` is what stands above them. Assumes nothing.
 use borrow.Author.Rules.{rules}
-use borrow.Author.Tests.{not-true, not-false}
 use denote.Floats.{passes}
 use native.Mathlib.Omega.{arith}
 use native.Mathlib.Numerals.{add-one}

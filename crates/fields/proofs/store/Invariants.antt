@@ -1,18 +1,8 @@
-use borrow.Author.Rules.{rules}
-use borrow.Author.Tests.{not-true, not-false}
-use denote.Floats.{passes}
-use native.Mathlib.Omega.{arith}
-use native.Mathlib.Numerals.{add-one}
-use native.Mathlib.Nat.{pow-suc, div-one, div-div-eq-div-mul}
-use Prim.Native.Nat.{ℕ, suc, ◌+◌, ◌-◌, ◌/◌, ◌%◌, ◌^◌, ◌≤◌, ◌<◌}
-use mathlib.Core.Path.{◌≡◌, refl, ap, ap₂, sym, ◌∙◌}
+use Prim.Native.Nat.{ℕ, ◌+◌, ◌-◌, ◌/◌, ◌^◌, ◌≤◌}
+use mathlib.Core.Path.{◌≡◌}
 use mathlib.Core.List.{List, ◌++◌}
-use lib.ListN.{length, take, drop, set, length-set, take-append-drop}
+use lib.ListN.{length, take, drop}
 use Rattle.laws.specs.Big.{to_be}
-use Rattle.laws.proofs.LaidLaws.{set-taken}
-use Rattle.laws.proofs.Ladders.{on, off}
-use Rattle.fields.specs.Field.{with_field}
-use Rattle.fields.proofs.Lying.{inside}
 use Rattle.fields.proofs.store.Given as goal
 
 -- the bytes after i turns

@@ -1,8 +1,6 @@
-use mathlib.Core.Path.{◌≡◌, refl}
-use mathlib.Core.Bool.{false, not}
+use mathlib.Core.Path.{refl}
 use borrow.Author.Tests.{lt-ltb, le-ltb, eq-eqb, ne_eqb}
 use Rattle.laws.proofs.Ladders.{on, off}
-use Rattle.frame.specs.Message.{known}
 use Rattle.frame.specs.Frame.{message_rows}
 use Rattle.frame.proofs.KnownKinds.{is_kind, low_kind, high_kind}
 use Rattle.frame.proofs.message_number.Goals as goal

@@ -1,4 +1,3 @@
-use borrow.Author.Rules.{rules}
 use mathlib.Core.Path.{◌∙◌, sym}
 use Rattle.laws.proofs.Ladders.{quiet, first_refuses, first_passes}
 use Rattle.frame.specs.Frame.{form_rows, message_rows, read_rows}

@@ -1,5 +1,4 @@
 -- Each store leaves what the definition says, and six of them the frame. Assumes nothing.
-use borrow.Author.Rules.{rules}
 use Rattle.frame.specs.Message.{msg}
 use Rattle.frame.proofs.Stored.{stored}
 use Rattle.frame.proofs.store.Goals as goal

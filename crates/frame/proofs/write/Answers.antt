@@ -1,4 +1,3 @@
-use borrow.Author.Rules.{rules}
 use mathlib.Core.Path.{◌∙◌, sym}
 use Rattle.frame.proofs.Stored.{room, done, kept}
 use Rattle.frame.proofs.write.Goals as goal

@@ -1,6 +1,4 @@
 -- Every byte of the output is compared with what is stored, in order. Assumes nothing.
-use borrow.Author.Rules.{rules}
-use borrow.Author.Tests.{not-false}
 use mathlib.Core.Path.{sym, ◌∙◌}
 use mathlib.Core.Bool.{true≢false}
 use native.Mathlib.Omega.{arith}

@@ -1,4 +1,3 @@
-use borrow.Author.Rules.{rules}
 use Rattle.radio.proofs.fpm_read.Goals as goal
 
 pub returns : goal.returns

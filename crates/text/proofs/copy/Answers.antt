@@ -1,11 +1,9 @@
 -- After i turns the first i bytes are put, so after the last all are. Assumes nothing.
-use borrow.Author.Rules.{rules}
-use Prim.Native.Nat.{ℕ, ◌+◌, ◌-◌, ◌≤◌}
-use mathlib.Core.Path.{◌≡◌, ap, ◌∙◌}
+use Prim.Native.Nat.{ℕ, ◌+◌}
+use mathlib.Core.Path.{ap, ◌∙◌}
 use mathlib.Core.List.{List}
 use native.Mathlib.Omega.{arith}
-use lib.ListN.{length, take, set, get_or}
-use lib.Seq.{sets}
+use lib.ListN.{set, get_or}
 use Rattle.text.proofs.Putting.{put_more, put_all, put_long}
 use Rattle.text.proofs.copy.Goals as goal
 

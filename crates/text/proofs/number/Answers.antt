@@ -6,7 +6,7 @@ use mathlib.Core.Path.{ap}
 use native.Mathlib.Omega.{arith}
 use Rattle.text.specs.Puts.{fitting}
 use Rattle.text.proofs.Putting.{spelled}
-use Rattle.text.proofs.Digits.{Left, all_left, one_less, none_left}
+use Rattle.text.proofs.Digits.{all_left, one_less, none_left}
 use Rattle.text.proofs.number.Goals as goal
 
 pub loop-rest-init : goal.loop-rest-init

@@ -1,11 +1,4 @@
-use borrow.Author.Rules.{rules}
-use Prim.Native.Nat.{◌+◌, ◌-◌}
-use lib.ListN.{length-set}
-use mathlib.Core.Path.{ap}
-use native.Mathlib.Omega.{arith}
-use Rattle.text.specs.Puts.{fitting}
-use Rattle.text.proofs.Putting.{spelled}
-use Rattle.text.proofs.Digits.{Left, all_left, one_less, none_left}
+use Rattle.text.proofs.Digits.{Left}
 use Rattle.text.proofs.number.Given as goal
 
 abbrev pub invariant-loop-rest : goal.invariant-loop-rest

@@ -1,5 +1,4 @@
 -- A word that fits is copied; of one that does not, nothing is put. Assumes nothing.
-use borrow.Author.Rules.{rules}
 use mathlib.Core.Path.{◌∙◌, sym}
 use borrow.Author.Tests.{leb-true, leb-false}
 use Rattle.text.proofs.Putting.{puts_all, puts_none}

@@ -1,20 +1,8 @@
-use borrow.Author.Rules.{rules}
-use Prim.Native.Nat.{ℕ, ◌-◌, ◌≤◌}
-use mathlib.Core.Path.{◌≡◌, refl, ap, ◌∙◌, sym, subst}
-use mathlib.Core.List.{List}
-use mathlib.Core.Logic.{⊎_elim}
-use native.Mathlib.Omega.{arith}
-use lib.ListN.{length, drop, length-set}
-use Rattle.bench.specs.Bench.{feeding, plain, turned, Turns}
-use Rattle.laws.proofs.StoreLaws.{within}
-use Rattle.laws.proofs.ListLaws.{length_mapped}
-use Rattle.bench.specs.Lines.{empty}
-use Rattle.bench.specs.Night.{opened}
-use Rattle.bench.specs.Inside.{Safe}
-use Rattle.bench.proofs.Nights.{absent}
-use Rattle.bench.proofs.Guessing.{command_safe}
-use Rattle.bench.proofs.Turning.{turned_long, answering, asked_is, asked_turns}
-use Rattle.bench.proofs.Feeding.{holding, feed_end, feed_stop, feed_plain, feed_turn, roomy}
+use Prim.Native.Nat.{◌-◌, ◌≤◌}
+use mathlib.Core.Path.{◌≡◌}
+use lib.ListN.{length, drop}
+use Rattle.bench.specs.Bench.{feeding}
+use Rattle.bench.proofs.Feeding.{holding}
 use Rattle.bench.proofs.Bench.feed.Given as goal
 
 abbrev pub invariant-loop-used : goal.invariant-loop-used

@@ -1,5 +1,4 @@
 -- The part of a line that is left is a line, and then the last line is written. Assumes nothing.
-use borrow.Author.Rules.{rules}
 use Rattle.bench.proofs.Feeding.{no_room, was_over, ends_over, ends_on}
 use Rattle.bench.proofs.Bench.finish.Goals as goal
 

@@ -1,5 +1,4 @@
 -- By what the line says. Assumes nothing.
-use borrow.Author.Rules.{rules}
 use mathlib.Core.Path.{refl}
 use native.Mathlib.Omega.{arith}
 use Rattle.text.proofs.Putting.{nothing}

@@ -1,5 +1,4 @@
 -- A line that has begun is turned, in the mode that the bench is in. Assumes nothing.
-use borrow.Author.Rules.{rules}
 use mathlib.Core.Path.{refl, ◌∙◌, sym}
 use native.Mathlib.Omega.{arith}
 use Rattle.text.proofs.Putting.{nothing}

@@ -1,4 +1,3 @@
-use borrow.Author.Rules.{rules}
 use Rattle.bench.specs.Bench.{unfed}
 use Rattle.bench.proofs.Bench.new.Goals as goal
 

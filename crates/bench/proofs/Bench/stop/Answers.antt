@@ -1,5 +1,4 @@
 -- The answer to line 257 and the last line are one text, of at most 52 bytes. Assumes nothing.
-use borrow.Author.Rules.{rules}
 use mathlib.Core.Path.{refl}
 use native.Mathlib.Omega.{arith}
 use Rattle.text.proofs.Putting.{and_then}

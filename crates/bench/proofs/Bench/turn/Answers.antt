@@ -1,5 +1,4 @@
 -- By mode. Assumes nothing.
-use borrow.Author.Rules.{rules}
 use Rattle.bench.proofs.Turning.{turns_as, turned_header, turned-last}
 use Rattle.bench.proofs.Bench.turn.Goals as goal
 

@@ -1,5 +1,4 @@
 -- By whether a message is sent. Assumes nothing.
-use borrow.Author.Rules.{rules}
 use mathlib.Core.Path.{◌∙◌, sym}
 use native.Mathlib.Omega.{arith}
 use Rattle.bench.proofs.Nights.{sent_one, sent_none}

@@ -1,10 +1,7 @@
 -- After p turns the first p records are opened. Assumes nothing.
-use borrow.Author.Rules.{rules}
-use Prim.Native.Nat.{◌-◌, ◌≤◌}
-use mathlib.Core.Path.{◌≡◌, refl, ◌∙◌}
-use mathlib.Core.List.{map}
+use mathlib.Core.Path.{refl, ◌∙◌}
 use native.Mathlib.Omega.{arith}
-use lib.ListN.{length, take, replicate, length-set}
+use lib.ListN.{replicate, length-set}
 use Rattle.frame.specs.Message.{blank}
 use Rattle.laws.specs.Search.{from}
 use Rattle.bench.specs.Night.{opened, begun}

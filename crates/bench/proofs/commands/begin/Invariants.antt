@@ -1,13 +1,9 @@
-use borrow.Author.Rules.{rules}
 use Prim.Native.Nat.{◌-◌, ◌≤◌}
-use mathlib.Core.Path.{◌≡◌, refl, ◌∙◌}
+use mathlib.Core.Path.{◌≡◌}
 use mathlib.Core.List.{map}
-use native.Mathlib.Omega.{arith}
-use lib.ListN.{length, take, replicate, length-set}
-use Rattle.frame.specs.Message.{blank}
+use lib.ListN.{length, take}
 use Rattle.laws.specs.Search.{from}
-use Rattle.bench.specs.Night.{opened, begun}
-use Rattle.laws.proofs.SearchLaws.{fill_one, fill_all}
+use Rattle.bench.specs.Night.{opened}
 use Rattle.bench.proofs.commands.begin.Given as goal
 
 abbrev pub invariant-loop-p : goal.invariant-loop-p

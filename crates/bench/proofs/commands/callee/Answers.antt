@@ -1,5 +1,4 @@
 -- By cases. Assumes nothing.
-use borrow.Author.Rules.{rules}
 use mathlib.Core.Path.{sym, ap, subst}
 use Rattle.bench.specs.Inside.{Safe, callee_of}
 use Rattle.bench.proofs.commands.callee.Goals as goal

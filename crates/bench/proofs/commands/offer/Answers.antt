@@ -1,5 +1,4 @@
 -- An accepted message is passed, a refused one stays next. Assumes nothing.
-use borrow.Author.Rules.{rules}
 use Prim.Native.Nat.{◌+◌, ◌*◌}
 use Rattle.bench.specs.Inside.{having}
 use Rattle.bench.proofs.Nights.{changes_as, accepted, stays_next}

@@ -1,4 +1,3 @@
-use borrow.Author.Rules.{rules}
 use Rattle.bench.specs.Night.{opened}
 use Rattle.bench.proofs.commands.opened.Goals as goal
 

@@ -1,5 +1,4 @@
 -- By cases. Assumes nothing.
-use borrow.Author.Rules.{rules}
 use mathlib.Core.Path.{sym, ap, subst}
 use native.Mathlib.Omega.{arith}
 use Rattle.bench.specs.Inside.{Safe, pair_of}

@@ -1,5 +1,4 @@
 -- The frame is the message's, the answer is the call's, and the acknowledgment is read back from the lent bytes. Assumes nothing.
-use borrow.Author.Rules.{rules}
 use Prim.Native.Nat.{ℕ}
 use mathlib.Core.List.{List}
 use mathlib.Core.Path.{ap, ◌∙◌}

@@ -1,4 +1,3 @@
-use borrow.Author.Rules.{rules}
 use Rattle.bench.proofs.Nights.{unchanged}
 use Rattle.bench.proofs.commands.refused.Goals as goal
 

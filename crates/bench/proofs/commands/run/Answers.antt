@@ -1,5 +1,4 @@
 -- By cases. Assumes nothing.
-use borrow.Author.Rules.{rules}
 use mathlib.Core.Path.{refl}
 use Prim.Native.Nat.{◌+◌, ◌*◌}
 use Rattle.calls.specs.Own.{taking, returning}

@@ -1,12 +1,9 @@
 -- What is left to look through gives the same place. Assumes nothing.
 use borrow.Author.Rules.{rules}
-use Prim.Native.Nat.{◌-◌}
 use mathlib.Core.Path.{◌≡◌, refl, ◌∙◌, sym}
 use native.Mathlib.Omega.{arith}
 use lib.ListN.{length}
-use lib.Seq.{slice}
 use Rattle.laws.proofs.ListLaws.{length_mapped}
-use Rattle.bench.specs.Night.{seek}
 use Rattle.bench.proofs.Nights.{seek_here, seek_on, seek_end}
 use Rattle.bench.proofs.commands.seek.Goals as goal
 

@@ -1,5 +1,4 @@
 -- The answer is the call's, and the message is read back from the lent bytes. Assumes nothing.
-use borrow.Author.Rules.{rules}
 use mathlib.Core.Path.{ap, ◌∙◌}
 use Rattle.frame.specs.Frame.{fields_of}
 use Rattle.bench.specs.Night.{speaks}

@@ -1,5 +1,4 @@
 -- A second digit moves the next number one place on. Assumes nothing.
-use borrow.Author.Rules.{rules}
 use mathlib.Core.Path.{ap, ◌∙◌}
 use native.Mathlib.Omega.{arith}
 use Rattle.bench.specs.Inside.{digit}

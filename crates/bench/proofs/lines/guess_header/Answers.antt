@@ -1,4 +1,3 @@
-use borrow.Author.Rules.{rules}
 use mathlib.Core.Path.{ap, ◌∙◌}
 use Rattle.bench.specs.Lines.{kept}
 use Rattle.bench.specs.Inside.{number_at, guess_header}

@@ -3,9 +3,8 @@ use borrow.Author.Rules.{rules}
 use mathlib.Core.Path.{ap, ◌∙◌, sym}
 use mathlib.Core.Bool.{not}
 use lib.Dec.{eqb}
-use borrow.Author.Tests.{not-true, not-false}
 use Rattle.laws.proofs.Ladders.{and_first, and_fails}
-use Rattle.bench.specs.Lines.{inside, in_range_for}
+use Rattle.bench.specs.Lines.{in_range_for}
 use Rattle.bench.proofs.lines.in_range.Goals as goal
 
 pub returns-then-not-inside : goal.returns-then-not-inside

@@ -1,5 +1,4 @@
 -- The header's text is put into a buffer of its own, which has room for it, and compared. Assumes nothing.
-use borrow.Author.Rules.{rules}
 use Prim.Native.Nat.{ℕ}
 use mathlib.Core.Path.{ap, ◌∙◌, sym}
 use mathlib.Core.List.{List}

@@ -1,5 +1,4 @@
 -- A second digit makes a number of two. Assumes nothing.
-use borrow.Author.Rules.{rules}
 use mathlib.Core.Path.{ap, ◌∙◌}
 use Rattle.bench.specs.Inside.{digit}
 use Rattle.bench.proofs.Digits.{number-two, number_one}

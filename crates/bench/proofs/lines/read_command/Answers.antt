@@ -1,7 +1,5 @@
 -- A line is its guess or no command. Assumes nothing.
-use borrow.Author.Rules.{rules}
 use mathlib.Core.Path.{◌∙◌, sym}
-use borrow.Author.Tests.{not-true, not-false}
 use Rattle.bench.proofs.Guessing.{is_command, out_of_range, not_command}
 use Rattle.bench.proofs.lines.read_command.Goals as goal
 

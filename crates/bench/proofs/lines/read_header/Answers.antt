@@ -1,5 +1,4 @@
 -- A line is its guess or no header. Assumes nothing.
-use borrow.Author.Rules.{rules}
 use mathlib.Core.Path.{◌∙◌, sym}
 use Rattle.bench.proofs.Guessing.{is_header, too_large, not_header}
 use Rattle.bench.proofs.lines.read_header.Goals as goal

@@ -1,5 +1,4 @@
 -- The number, the space, the command and the rest are one text. Assumes nothing.
-use borrow.Author.Rules.{rules}
 use Rattle.bench.specs.Text.{answer_line}
 use Rattle.text.proofs.Putting.{lays, and_then}
 use Rattle.bench.proofs.writing.answer.Goals as goal

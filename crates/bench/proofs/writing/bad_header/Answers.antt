@@ -1,5 +1,4 @@
 -- It is one word. Assumes nothing.
-use borrow.Author.Rules.{rules}
 use Rattle.text.proofs.Putting.{lays}
 use Rattle.bench.proofs.writing.bad_header.Goals as goal
 

@@ -1,5 +1,4 @@
 -- Each kind of command has its own parts, put one after the other. Assumes nothing.
-use borrow.Author.Rules.{rules}
 use mathlib.Core.Path.{ap, sym}
 use Rattle.bench.specs.Text.{text}
 use Rattle.text.proofs.Putting.{lays, and_then, reworded}

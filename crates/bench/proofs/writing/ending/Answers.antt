@@ -1,5 +1,4 @@
 -- The five parts are one text, with the mark in its place. Assumes nothing.
-use borrow.Author.Rules.{rules}
 use Prim.Native.Nat.{ℕ}
 use mathlib.Core.Path.{ap}
 use mathlib.Core.List.{[], ◌∷◌, ◌++◌}

@@ -1,5 +1,4 @@
 -- The three words, the three numbers and the LF are one text. Assumes nothing.
-use borrow.Author.Rules.{rules}
 use Rattle.bench.specs.Text.{last_line}
 use Rattle.text.proofs.Putting.{lays, and_then}
 use Rattle.bench.proofs.writing.last.Goals as goal

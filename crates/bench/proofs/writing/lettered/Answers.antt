@@ -1,5 +1,4 @@
 -- The letter, the space and the number are one text. Assumes nothing.
-use borrow.Author.Rules.{rules}
 use Rattle.text.proofs.Putting.{lays, and_then}
 use Rattle.bench.proofs.writing.lettered.Goals as goal
 

@@ -1,5 +1,4 @@
 -- Three digits are enough for a number below 1000, and twenty give the same. Assumes nothing.
-use borrow.Author.Rules.{rules}
 use native.Mathlib.Omega.{arith}
 use Rattle.text.proofs.Digits.{digits_enough}
 use Rattle.text.proofs.Putting.{lays, reworded}

@@ -1,5 +1,4 @@
 -- The numbers and the space between are one text. Assumes nothing.
-use borrow.Author.Rules.{rules}
 use Rattle.text.proofs.Putting.{lays, and_then}
 use Rattle.bench.proofs.writing.pair.Goals as goal
 

@@ -1,4 +1,3 @@
-use borrow.Author.Rules.{rules}
 use Rattle.calls.specs.View.{acks}
 use Rattle.post.proofs.Post.acknowledges.Goals as goal
 

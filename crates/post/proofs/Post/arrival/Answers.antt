@@ -1,10 +1,9 @@
 -- Each return is a row of the table that applies, after those that do not; the last hands on the message that was split off. Assumes nothing.
-use borrow.Author.Rules.{rules}
 use Prim.Native.Nat.{◌<◌}
-use mathlib.Core.Path.{◌≡◌, ◌∙◌, sym, ap, refl}
+use mathlib.Core.Path.{◌≡◌, ◌∙◌, sym, refl}
 use mathlib.Core.Bool.{true, false, not}
 use native.Mathlib.Omega.{arith}
-use borrow.Author.Tests.{lt-ltb, not-false, eq-eqb, ne_eqb}
+use borrow.Author.Tests.{lt-ltb, eq-eqb, ne_eqb}
 use denote.Floats.{passes}
 use lib.Dec.{T}
 use Rattle.laws.proofs.Ladders.{on, off, not_on, not_off}

@@ -1,4 +1,3 @@
-use borrow.Author.Rules.{rules}
 use mathlib.Core.Path.{refl, ◌∙◌, sym}
 use borrow.Author.Tests.{not-true, not-false}
 use Rattle.laws.proofs.Ladders.{and_first, and_fails}

@@ -1,7 +1,5 @@
-use borrow.Author.Rules.{rules}
 use mathlib.Core.Path.{refl, ◌∙◌, sym, ap}
 use mathlib.Core.Bool.{and-true}
-use borrow.Author.Tests.{not-true, not-false}
 use Rattle.laws.proofs.Ladders.{and_first, and_fails}
 use Rattle.post.specs.Settle.{free}
 use Rattle.post.specs.Sound.{order_fits, count_rules}

@@ -1,12 +1,12 @@
 -- The invariant: the place i is free, all above it are above the message, and of the record only the slots change. Assumes nothing.
 use borrow.Author.Rules.{rules}
-use Prim.Native.Nat.{ℕ, ◌+◌, ◌-◌, ◌<◌}
-use mathlib.Core.Path.{◌≡◌, refl, ap, ◌∙◌, subst}
-use mathlib.Core.Logic.{inl, inr, ⊎_elim}
+use Prim.Native.Nat.{ℕ, ◌+◌, ◌-◌}
+use mathlib.Core.Path.{refl, ap, ◌∙◌, subst}
+use mathlib.Core.Logic.{inl, inr}
 use mathlib.Core.List.{List, ◌++◌}
 use native.Mathlib.Omega.{arith}
 use lib.ListN.{get_or, drop, set}
-use Rattle.laws.proofs.ShiftLaws.{Hole, hole, moved, below, filled}
+use Rattle.laws.proofs.ShiftLaws.{hole, moved, below, filled}
 use Rattle.frame.specs.declared.Message.{Message}
 use Rattle.frame.specs.Message.{blank, stamp}
 use Rattle.post.specs.declared.Post.{Post}
@@ -68,7 +68,7 @@ returns c =
     ∙ ap (λ (x : List Message). x ++ drop (p.waits + 1) p.slots)
     (in_place m p.slots p.waits k.i (sound_has _ z.sound).rising (omega arith) (omega arith)
     (elim c.loop-i-test.branch [
-      else-loop-i-test w ↦ inl (omega arith)
-    | then-loop-i-test+then-stamp-t w ↦ inr (omega arith, let e = w.stamp.ensures in let s = ap stamp (below v blank (omega arith)) in omega arith)
+      | else-loop-i-test w ↦ inl (omega arith)
+      | then-loop-i-test+then-stamp-t w ↦ inr (omega arith, let e = w.stamp.ensures in let s = ap stamp (below v blank (omega arith)) in omega arith)
     ])
     (subst (λ (x : ℕ). Above x p.slots p.waits k.i) t k.invariant.2)))

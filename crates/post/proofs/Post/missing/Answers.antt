@@ -1,6 +1,4 @@
-use borrow.Author.Rules.{rules}
 use mathlib.Core.Path.{refl, ◌∙◌, sym}
-use borrow.Author.Tests.{not-true, not-false}
 use denote.Floats.{passes}
 use Rattle.laws.proofs.Ladders.{off}
 use Rattle.post.specs.Calls.{missed}

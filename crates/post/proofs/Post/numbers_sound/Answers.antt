@@ -1,6 +1,5 @@
-use borrow.Author.Rules.{rules}
 use mathlib.Core.Path.{refl, ◌∙◌, sym}
-use borrow.Author.Tests.{not-true, not-false, lt-leb, le-leb}
+use borrow.Author.Tests.{lt-leb, le-leb}
 use Rattle.laws.proofs.Ladders.{and_first, and_fails}
 use Rattle.post.specs.Sound.{number_rules}
 use Rattle.post.proofs.Works.Rules.{lasts_fit}

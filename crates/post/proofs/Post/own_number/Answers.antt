@@ -1,6 +1,4 @@
-use borrow.Author.Rules.{rules}
-use mathlib.Core.Path.{◌∙◌, sym, ap, refl}
-use mathlib.Core.Bool.{not}
+use mathlib.Core.Path.{◌∙◌, sym, refl}
 use borrow.Author.Tests.{lt-ltb, le-ltb, le-leb, lt-leb, eq-eqb, ne_eqb}
 use Rattle.laws.proofs.Ladders.{on, off, not_on, not_off}
 use Rattle.calls.specs.Table.{phase_tests}

@@ -1,9 +1,7 @@
-use borrow.Author.Rules.{rules}
-use mathlib.Core.Path.{◌≡◌, refl, ◌∙◌, sym}
-use mathlib.Core.Bool.{false, not}
+use mathlib.Core.Path.{refl, ◌∙◌, sym}
 use Rattle.laws.proofs.Ladders.{on, off}
 use Rattle.frame.proofs.KnownKinds.{is_kind, low_kind, high_kind}
-use Rattle.calls.specs.Table.{served, sender_tests}
+use Rattle.calls.specs.Table.{sender_tests}
 use borrow.Author.Tests.{eq-eqb, ne_eqb}
 use Rattle.post.proofs.Post.sender_number.Goals as goal
 

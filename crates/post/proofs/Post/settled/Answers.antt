@@ -2,15 +2,13 @@
 use borrow.Author.Rules.{rules}
 use Prim.Native.Nat.{ℕ, ◌+◌, ◌-◌, ◌≤◌, ◌<◌, ◌^◌}
 use mathlib.Core.Path.{◌≡◌, refl, ap, ◌∙◌}
-use mathlib.Core.List.{List}
 use native.Mathlib.Omega.{arith}
 use lib.ListN.{length, get_or, set}
 use lib.Seq.{length-take-le}
 use Rattle.laws.specs.Lists.{leading}
 use Rattle.laws.proofs.ScanLaws.{many-length}
-use Rattle.laws.proofs.ShiftLaws.{Moved, begins, one_moved, one_cleared}
+use Rattle.laws.proofs.ShiftLaws.{begins, one_moved, one_cleared}
 use Rattle.laws.proofs.LeadingLaws.{leading_length}
-use Rattle.frame.specs.declared.Message.{Message}
 use Rattle.frame.specs.Message.{blank, is_return, stamp}
 use Rattle.post.specs.declared.Post.{Post}
 use Rattle.post.specs.Record.{start_of, waiting_of, made}

@@ -1,22 +1,11 @@
-use borrow.Author.Rules.{rules}
-use Prim.Native.Nat.{ℕ, ◌+◌, ◌-◌, ◌≤◌, ◌<◌, ◌^◌}
-use mathlib.Core.Path.{◌≡◌, refl, ap, ◌∙◌}
+use Prim.Native.Nat.{◌-◌, ◌≤◌}
+use mathlib.Core.Path.{◌≡◌}
 use mathlib.Core.List.{List}
-use native.Mathlib.Omega.{arith}
-use lib.ListN.{length, get_or, set}
-use lib.Seq.{length-take-le}
-use Rattle.laws.specs.Lists.{leading}
-use Rattle.laws.proofs.ScanLaws.{many-length}
-use Rattle.laws.proofs.ShiftLaws.{Moved, begins, one_moved, one_cleared}
-use Rattle.laws.proofs.LeadingLaws.{leading_length}
+use lib.ListN.{length}
+use Rattle.laws.proofs.ShiftLaws.{Moved}
 use Rattle.frame.specs.declared.Message.{Message}
-use Rattle.frame.specs.Message.{blank, is_return, stamp}
-use Rattle.post.specs.declared.Post.{Post}
-use Rattle.post.specs.Record.{start_of, waiting_of, made}
-use Rattle.post.specs.Settle.{settle}
-use Rattle.post.proofs.Works.Answering.{is_answer}
-use Rattle.laws.proofs.ListLaws.{length_mapped}
-use Rattle.post.proofs.Works.Remaking.{with_slots, moved_slots, settles_as}
+use Rattle.frame.specs.Message.{blank}
+use Rattle.post.proofs.Works.Remaking.{with_slots}
 use Rattle.post.proofs.Post.settled.Given as goal
 
 abbrev pub invariant-loop-j : goal.invariant-loop-j

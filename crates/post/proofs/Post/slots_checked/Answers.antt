@@ -1,11 +1,7 @@
-use borrow.Author.Rules.{rules}
 use mathlib.Core.Path.{refl, ◌∙◌, sym}
 use mathlib.Core.Bool.{true}
 use borrow.Author.Tests.{not-true, not-false}
-use lib.ListN.{drop}
 use Rattle.laws.proofs.Ladders.{and_first, and_fails}
-use Rattle.post.specs.Record.{waiting_of, floor}
-use Rattle.post.specs.Inside.{Looked}
 use Rattle.post.proofs.Works.Rules.{numbers_has, looked_floor, fails, disorder, order, few_is, own_is, crowd}
 use Rattle.post.proofs.Post.slots_checked.Goals as goal
 

@@ -1,4 +1,3 @@
-use borrow.Author.Rules.{rules}
 use mathlib.Core.Path.{◌∙◌, sym}
 use Rattle.laws.proofs.Ladders.{on, off}
 use Rattle.post.specs.Calls.{started}

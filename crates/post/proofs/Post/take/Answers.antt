@@ -1,11 +1,8 @@
 use borrow.Author.Rules.{rules}
 use mathlib.Core.Path.{◌∙◌, subst, sym}
-use lib.Dec.{T}
 use lib.ListN.{length}
 use Rattle.calls.specs.Own.{taking}
-use Rattle.calls.proofs.Passing.{Speaks}
-use Rattle.post.specs.Sound.{sound}
-use Rattle.post.specs.Calls.{view_of, own_rows}
+use Rattle.post.specs.Calls.{own_rows}
 use Rattle.post.specs.Inside.{Countable}
 use Rattle.post.proofs.Sound.Facts.{sound_has}
 use Rattle.post.proofs.Fields.Shape.{Kept}

@@ -2,7 +2,6 @@ use borrow.Author.Rules.{rules}
 use Prim.Native.Nat.{◌<◌, ◌+◌, ◌^◌}
 use mathlib.Core.Path.{refl, ap₂, ◌∙◌, sym}
 use native.Mathlib.Omega.{arith}
-use borrow.Author.Tests.{not-true, not-false}
 use denote.Floats.{passes}
 use lib.Dec.{T}
 use lib.IntN.{ℤ, ◌-ℤ◌}

@@ -1,6 +1,4 @@
-use borrow.Author.Rules.{rules}
 use mathlib.Core.Path.{refl, ◌∙◌, sym}
-use borrow.Author.Tests.{not-true, not-false}
 use Rattle.laws.proofs.Ladders.{and_first, and_fails}
 use Rattle.post.proofs.arrivals.is_fifth.Goals as goal
 

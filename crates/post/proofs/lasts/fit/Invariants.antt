@@ -1,13 +1,10 @@
-use borrow.Author.Rules.{rules}
 use Prim.Native.Nat.{ℕ, ◌≤◌, ◌-◌}
-use mathlib.Core.Path.{◌≡◌, refl, ap, ◌∙◌}
+use mathlib.Core.Path.{◌≡◌}
 use mathlib.Core.Bool.{Bool, ◌&&◌, ◌||◌}
 use mathlib.Core.List.{List}
 use lib.Dec.{leb, ltb, eqb}
 use lib.ListN.{get_or}
-use native.Mathlib.Omega.{arith}
 use Rattle.laws.specs.Below.{all_to}
-use Rattle.laws.proofs.ScanLaws.{all_to_turn}
 use Rattle.post.proofs.lasts.fit.Given as goal
 
 -- the test of post q

@@ -1,7 +1,6 @@
 use Prim.Native.Nat.{ℕ, zero, suc}
 use mathlib.Core.Path.{◌≡◌, refl, ap, ◌∙◌, sym}
 use native.Mathlib.Omega.{arith}
-use mathlib.Core.Logic.{⊎_elim}
 use borrow.Author.Tests.{lt-ltb, le-ltb, le-leb, lt-leb, ne_eqb}
 use lib.Dec.{leb, eqb}
 use Rattle.laws.proofs.Ladders.{and_first, one_on, one_off, or-after}
@@ -18,6 +17,6 @@ pub returns : goal.returns
 returns c =
     let a = c.args in
     elim c.if-q-posts.branch [
-      then-q-posts w ↦ ap (leb a.c) w.most-is ∙ and_first _ _ (one_on _ _ (lt-ltb _ _ w.if-q-posts.true)) refl
-    | else-q-posts w ↦ ap (leb a.c) w.most-is ∙ none a.c a.clock ∙ ap (λ t. t && leb a.c a.clock) (or-after _ _ (le-ltb _ _ w.if-q-posts.false) refl)
+      | then-q-posts w ↦ ap (leb a.c) w.most-is ∙ and_first _ _ (one_on _ _ (lt-ltb _ _ w.if-q-posts.true)) refl
+      | else-q-posts w ↦ ap (leb a.c) w.most-is ∙ none a.c a.clock ∙ ap (λ t. t && leb a.c a.clock) (or-after _ _ (le-ltb _ _ w.if-q-posts.false) refl)
     ]

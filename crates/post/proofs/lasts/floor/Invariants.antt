@@ -1,10 +1,7 @@
-use borrow.Author.Rules.{rules}
 use Prim.Native.Nat.{◌≤◌, ◌-◌, ◌^◌}
-use mathlib.Core.Path.{◌≡◌, refl}
+use mathlib.Core.Path.{◌≡◌}
 use lib.ListN.{get_or}
-use native.Mathlib.Omega.{arith}
 use Rattle.laws.specs.Below.{least_to}
-use Rattle.laws.proofs.ScanLaws.{least_to_turn}
 use Rattle.frame.specs.Message.{stamp_of}
 use Rattle.post.proofs.lasts.floor.Given as goal
 

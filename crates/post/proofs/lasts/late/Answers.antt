@@ -1,15 +1,10 @@
-use borrow.Author.Rules.{rules}
-use Prim.Native.Nat.{ℕ, ◌+◌, ◌≤◌, ◌-◌, ◌^◌}
+use Prim.Native.Nat.{◌+◌, ◌^◌}
 use mathlib.Core.Path.{◌≡◌, refl, ap, ◌∙◌}
-use mathlib.Core.Bool.{Bool, cond, not, ◌&&◌}
-use mathlib.Core.List.{List}
+use mathlib.Core.Bool.{Bool, cond}
 use native.Mathlib.Omega.{arith}
-use lib.Dec.{ltb, eqb}
-use lib.ListN.{get_or}
-use Rattle.laws.specs.Below.{sum_to, bits_to}
+use Rattle.laws.specs.Below.{sum_to}
 use Rattle.laws.proofs.BitLaws.{bits_lt}
 use Rattle.laws.proofs.ScanLaws.{sum_to_turn}
-use Rattle.frame.specs.Message.{stamp_of}
 use Rattle.post.proofs.lasts.late.Invariants.{late_at}
 use Rattle.post.proofs.lasts.late.Goals as goal
 

@@ -1,14 +1,10 @@
-use borrow.Author.Rules.{rules}
-use Prim.Native.Nat.{ℕ, ◌+◌, ◌≤◌, ◌-◌, ◌^◌}
-use mathlib.Core.Path.{◌≡◌, refl, ap, ◌∙◌}
-use mathlib.Core.Bool.{Bool, cond, not, ◌&&◌}
+use Prim.Native.Nat.{ℕ, ◌≤◌, ◌-◌}
+use mathlib.Core.Path.{◌≡◌}
+use mathlib.Core.Bool.{Bool, not, ◌&&◌}
 use mathlib.Core.List.{List}
-use native.Mathlib.Omega.{arith}
 use lib.Dec.{ltb, eqb}
 use lib.ListN.{get_or}
-use Rattle.laws.specs.Below.{sum_to, bits_to}
-use Rattle.laws.proofs.BitLaws.{bits_lt}
-use Rattle.laws.proofs.ScanLaws.{sum_to_turn}
+use Rattle.laws.specs.Below.{bits_to}
 use Rattle.frame.specs.Message.{stamp_of}
 use Rattle.post.proofs.lasts.late.Given as goal
 

@@ -1,10 +1,7 @@
-use borrow.Author.Rules.{rules}
 use Prim.Native.Nat.{◌≤◌, ◌-◌, ◌*◌, ◌^◌}
-use mathlib.Core.Path.{◌≡◌, refl}
+use mathlib.Core.Path.{◌≡◌}
 use lib.ListN.{get_or}
-use native.Mathlib.Omega.{arith}
 use Rattle.laws.specs.Below.{sum_to}
-use Rattle.laws.proofs.ScanLaws.{sum_to_turn}
 use Rattle.post.proofs.lasts.sum.Given as goal
 
 abbrev pub invariant-loop-q : goal.invariant-loop-q

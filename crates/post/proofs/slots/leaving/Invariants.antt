@@ -1,13 +1,7 @@
-use borrow.Author.Rules.{rules}
-use Prim.Native.Nat.{◌+◌, ◌≤◌, ◌-◌}
-use mathlib.Core.Path.{◌≡◌}
-use mathlib.Core.List.{◌∷◌}
-use native.Mathlib.Omega.{arith}
-use lib.ListN.{length, get_or, take}
-use lib.Seq.{slice, length-take-le}
-use Rattle.laws.proofs.ScanLaws.{one_left, none_left}
-use Rattle.frame.specs.Message.{blank}
-use Rattle.post.proofs.Works.Leaving.{Leaves, begun, ended, stopped, turned, small}
+use Prim.Native.Nat.{◌≤◌, ◌-◌}
+use lib.ListN.{take}
+use lib.Seq.{slice}
+use Rattle.post.proofs.Works.Leaving.{Leaves}
 use Rattle.post.proofs.slots.leaving.Given as goal
 
 abbrev pub invariant-loop-i : goal.invariant-loop-i

@@ -1,11 +1,10 @@
 -- The invariant says what has been found and what is still to be looked at (`Going`). Assumes nothing.
 use borrow.Author.Rules.{rules}
-use Prim.Native.Nat.{ℕ, ◌<◌, ◌+◌, ◌≤◌, ◌-◌}
+use Prim.Native.Nat.{ℕ, ◌<◌, ◌+◌, ◌≤◌}
 use mathlib.Core.Path.{◌≡◌, ap, ◌∙◌, sym}
-use mathlib.Core.Logic.{⊎_elim}
 use mathlib.Core.List.{List, ◌∷◌}
 use native.Mathlib.Omega.{arith}
-use borrow.Author.Tests.{not-true, not-false, eq-eqb, ne_eqb}
+use borrow.Author.Tests.{eq-eqb, ne_eqb}
 use lib.ListN.{length, get_or, take, drop}
 use lib.Seq.{slice, length-take-le}
 use Rattle.laws.specs.Lists.{all}
@@ -56,8 +55,8 @@ loop-i-preserved c =
     let fits = sym c.fits_last.ensures ∙ c.if-not-fits_last.false in
     let turn = turned _ _ _ _ _ (going c.args.slots (search rules) (omega arith) (omega arith) c.loop-i.invariant.1) c.if-posts-m.false (search rules) fits c.stamp-t.ensures c.if-t-top.false in
     elim c.if-m-own.branch [
-      then-m-own w ↦ let y = eq-eqb _ _ w.if-m-own.true in (omega arith, turn (rw y (w.takes-is ∙ w.one_kind-takes.ensures)) (rw y (w.returns-is ∙ w.one_kind-returns.ensures)) (rw y w.end-is))
-    | else-m-own w ↦ let y = ne_eqb _ _ w.if-m-own.false in (omega arith, turn (rw y (omega arith)) (rw y (omega arith)) (rw y w.end-is))
+      | then-m-own w ↦ let y = eq-eqb _ _ w.if-m-own.true in (omega arith, turn (rw y (w.takes-is ∙ w.one_kind-takes.ensures)) (rw y (w.returns-is ∙ w.one_kind-returns.ensures)) (rw y w.end-is))
+      | else-m-own w ↦ let y = ne_eqb _ _ w.if-m-own.false in (omega arith, turn (rw y (omega arith)) (rw y (omega arith)) (rw y w.end-is))
     ]
 
 pub loop-i-2-init : goal.loop-i-2-init

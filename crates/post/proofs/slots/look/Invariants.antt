@@ -1,17 +1,10 @@
-use borrow.Author.Rules.{rules}
-use Prim.Native.Nat.{ℕ, ◌+◌, ◌≤◌, ◌-◌}
-use mathlib.Core.Path.{◌≡◌, ap, ◌∙◌, sym}
-use mathlib.Core.Logic.{⊎_elim}
-use mathlib.Core.List.{◌∷◌}
-use native.Mathlib.Omega.{arith}
-use borrow.Author.Tests.{not-true, not-false, eq-eqb, ne_eqb}
-use lib.ListN.{length, get_or, take, drop}
-use lib.Seq.{slice, length-take-le}
+use Prim.Native.Nat.{◌≤◌, ◌-◌}
+use mathlib.Core.Path.{◌≡◌}
+use lib.ListN.{take, drop}
+use lib.Seq.{slice}
 use Rattle.laws.specs.Lists.{all}
-use Rattle.laws.proofs.ScanLaws.{one_left, none_left}
-use Rattle.frame.specs.Message.{blank}
 use Rattle.post.specs.Sound.{is_blank}
-use Rattle.post.proofs.Works.Looking.{Going, begun, foreign, unfit, low, takes_small, returns_small, each_small, turned, looked, wrong, used, full_slot, blank_slot, no_slot}
+use Rattle.post.proofs.Works.Looking.{Going}
 use Rattle.post.proofs.slots.look.Given as goal
 
 abbrev pub invariant-loop-i : goal.invariant-loop-i

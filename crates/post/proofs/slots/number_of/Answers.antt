@@ -1,4 +1,3 @@
-use borrow.Author.Rules.{rules}
 use mathlib.Core.Path.{refl}
 use borrow.Author.Tests.{eq-eqb, ne_eqb}
 use Rattle.laws.proofs.Ladders.{on, off, one_off, two_off, both_on}

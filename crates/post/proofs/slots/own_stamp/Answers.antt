@@ -1,5 +1,5 @@
 use borrow.Author.Rules.{rules}
-use Prim.Native.Nat.{ℕ, ◌<◌, ◌+◌, ◌≤◌, ◌-◌}
+use Prim.Native.Nat.{ℕ, ◌<◌, ◌+◌, ◌≤◌}
 use mathlib.Core.Path.{◌≡◌, refl, ◌∙◌, sym}
 use mathlib.Core.List.{List, ◌∷◌}
 use native.Mathlib.Omega.{arith}
@@ -7,7 +7,7 @@ use lib.ListN.{length, get_or, take}
 use lib.Seq.{slice}
 use Rattle.laws.proofs.ScanLaws.{one_left, none_left}
 use Rattle.laws.proofs.Ladders.{on, off}
-use Rattle.frame.specs.Message.{blank, stamp}
+use Rattle.frame.specs.Message.{blank}
 use Rattle.post.specs.Calls.{own_stamp}
 use Rattle.frame.specs.declared.Message.{Message}
 use Rattle.post.proofs.slots.own_stamp.Goals as goal

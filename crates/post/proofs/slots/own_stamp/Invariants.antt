@@ -1,13 +1,7 @@
-use borrow.Author.Rules.{rules}
-use Prim.Native.Nat.{◌+◌, ◌≤◌, ◌-◌}
-use mathlib.Core.Path.{◌≡◌, refl, ◌∙◌, sym}
-use mathlib.Core.List.{◌∷◌}
-use native.Mathlib.Omega.{arith}
-use lib.ListN.{length, get_or, take}
+use Prim.Native.Nat.{◌≤◌, ◌-◌}
+use mathlib.Core.Path.{◌≡◌}
+use lib.ListN.{take}
 use lib.Seq.{slice}
-use Rattle.laws.proofs.ScanLaws.{one_left, none_left}
-use Rattle.laws.proofs.Ladders.{on, off}
-use Rattle.frame.specs.Message.{blank, stamp}
 use Rattle.post.specs.Calls.{own_stamp}
 use Rattle.post.proofs.slots.own_stamp.Given as goal
 
