@@ -53,6 +53,7 @@ const MARK: u32 = 0x46504d;
 const VERSION: u16 = 1;
 
 // The refusals that reading and writing share, in the order of the table.
+#[tactic(auto, unfolding(crate::specs::Frame::message_rows))]
 fn message_number(m: Message) -> u8
     ensures { result ≡ refusal (message_rows m) }
 {
@@ -72,6 +73,7 @@ fn message_number(m: Message) -> u8
 }
 
 // The refusals of bytes that are no frame, whatever message they hold.
+#[tactic(auto, unfolding(crate::specs::Frame::form_rows))]
 pub fn form_number(len: usize, f: Fields) -> u8
     ensures { result ≡ refusal (form_rows len f) }
 {

@@ -50,6 +50,7 @@ impl Post {
         self.posts <= m.sender
     }
 
+    #[tactic(auto, unfolding(calls::specs::Table::sender_tests))]
     fn sender_number(self, m: Message) -> u8
         ensures { result ≡ refusal (sender_tests (view_of self) m) }
     {
@@ -91,6 +92,7 @@ impl Post {
     }
 
     // The refusals of a message by its turn, where so many of its sender wait.
+    #[tactic(auto, unfolding(calls::specs::Table::turn_tests))]
     fn turn_number(self, m: Message, count: u8) -> u8
         requires { T (sound self) × (m.sender < self.posts) × (count ≡ many (by m.sender) (waiting_of self)) }
         ensures { result ≡ refusal (turn_tests (view_of self) m) }

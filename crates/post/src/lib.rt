@@ -169,6 +169,7 @@ impl Post {
     }
 
     // An own message goes out in one phase alone; in another the number is `other`.
+    #[tactic(auto, unfolding(calls::specs::Table::phase_tests))]
     fn own_number(self, from: u8, other: u8, len: usize) -> u8
         ensures { result ≡ refusal (1 when not (sound self) ∷ phase_tests from other (view_of self) len) }
     {

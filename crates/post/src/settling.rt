@@ -6,6 +6,7 @@ ghost use Rattle.post.specs.Inside.{Countable};
 
 use crate::{Answer, Post, lasts, rules, slots};
 
+#[tactic(auto, unfolding(crate::specs::Settle::phase_after))]
 fn phase_after(phase: u8, order: u64, free: bool) -> u8
     ensures { result ≡ phase_after phase order free }
 {
