@@ -1,11 +1,11 @@
-# Sourced by the tests that compile C, after tests/common.sh. The archive of crates/radio is for x86-64, so on
-# every machine the kit's compiler makes x86-64 programs.
+# Sourced by the tests that compile C, after tests/common.sh. The archive of crates/radio is for x86-64, and the
+# kit's compiler makes x86-64 programs.
 
 . ./kit.sh
 need gcc gcc # for its headers alone
 [ -f /usr/include/stdio.h ] || die "stdio.h is missing: install the Debian package libc6-dev."
 [ -x "$tools/bin/clang" ] || die "the kit has no compiler for this machine, $(uname -m)."
-archive=target/staticlib/libradio.a
+archive=crates/radio/out/libradio.a
 
 compile() { # SOURCE OUTPUT WORDS..: -c for an object, -S for assembly
     "$tools/bin/clang" --target=x86_64-linux-gnu -O2 -fPIE -Wall -Wextra -Wpedantic -Werror \
@@ -21,11 +21,11 @@ link_program() { # PROGRAM OBJECTS..
 }
 
 make_archive() { # unless it is newer than all that it is made of
-    [ ! -f "$archive" ] || [ -n "$(find crates.txt crates -newer "$archive" -print -quit)" ] || return 0
-    local log=target/staticlib.log
+    is_stale "$archive" || return 0
+    local log=target/radio.log
     mkdir -p target
-    rt staticlib radio >"$log" 2>&1 || {
+    (cd crates/radio && rt lib) >"$log" 2>&1 || {
         cat "$log" >&2
-        die "rt staticlib radio made no archive."
+        die "rt lib in crates/radio made no archive."
     }
 }
