@@ -124,11 +124,16 @@ fn try_night<R: Files>(rt: &R, whole: [u8; 256], n: usize) -> Outcome {
     Outcome::Differs
 }
 
-// Writes the name of the night, and what came of it; 1 where it is the same.
-fn night<R: Files, W: Write>(rt: &R, output: &mut W, name: [u8; 256], n: usize) -> io::Result<u64>
-    requires { n ≤ 256 }
+// Writes the name of the night that argument i gives, and what came of it; 1 where it is the same.
+fn night<R: Env + Files, W: Write>(rt: &R, output: &mut W, i: usize) -> io::Result<u64>
     ensures { IfOk result (λ k. k ≤ 1) }
 {
+    let mut name = [0u8; 256];
+    // a name that is missing or too long is taken for an empty one
+    let n = match rt.arg(i, &mut name) {
+        Ok(n) => n,
+        Err(_) => 0,
+    };
     output.write_all(&name[..n])?;
     match try_night(rt, name, n) {
         Outcome::Same => {
@@ -146,18 +151,24 @@ fn night<R: Files, W: Write>(rt: &R, output: &mut W, name: [u8; 256], n: usize) 
     }
 }
 
+// How many arguments there are, the program's own name among them.
+fn arg_count<R: Env>(rt: &R) -> usize {
+    let mut name = [0u8; 256];
+    for i in 0..usize::MAX {
+        if let Err(FillError::NotPresent) = rt.arg(i, &mut name) {
+            return i;
+        }
+    }
+    usize::MAX
+}
+
 fn main(rt: HostRuntime) -> io::Result<()> {
     let mut output = rt.stdout();
+    let nights = arg_count(&rt);
     let mut same = 0u64;
     let mut i = 1;
-    while i < usize::MAX {
-        let mut name = [0u8; 256];
-        let n = match rt.arg(i, &mut name) {
-            Ok(n) => n,
-            Err(FillError::TooLong) => 0,
-            Err(FillError::NotPresent) => break,
-        };
-        same += night(&rt, &mut output, name, n)?;
+    while i < nights {
+        same += night(&rt, &mut output, i)?;
         i += 1;
     }
     let nights = i - 1;
