@@ -1,6 +1,7 @@
 -- The bench, fed byte by byte: what each byte does and writes, and what is written at the end of the input.
 use Rattle.std.proofs.lemmas.List.Edits.{sets}
-use Rattle.laws.specs.{Words.{Bool, true, false, not, cond, ◌&&◌, ◌||◌, List, [], ◌∷◌, ◌++◌, ◌≡◌, ℕ, ◌+◌, ◌-◌, ◌≤◌, leb, ltb, eqb, length}, Lists.{many}}
+use Rattle.std.specs.Prelude.{Bool, true, false, not, cond, ◌&&◌, ◌||◌, List, [], ◌∷◌, ◌++◌, ◌≡◌, ℕ, ◌+◌, ◌-◌, ◌≤◌, leb, ltb, eqb, length}
+use Rattle.laws.specs.Lists.{many}
 use Rattle.text.specs.Puts.{Puts}
 use Rattle.post.specs.declared.Post.{Post}
 use Rattle.bench.specs.{declared.Night.{Night}, declared.Bench.{Bench}, declared.Turned.{Turned}, declared.Fed.{Fed}, declared.Finished.{Finished}}

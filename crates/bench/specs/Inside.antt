@@ -1,5 +1,5 @@
 -- What functions inside the crate promise each other: the one header or command that a line can be, by its digits; what a command changes.
-use Rattle.laws.specs.Words.{Bool, cond, ◌&&◌, List, ◌≡◌, ℕ, ◌+◌, ◌-◌, ◌*◌, ◌<◌, leb, ltb, eqb, get_or, set}
+use Rattle.std.specs.Prelude.{Bool, cond, ◌&&◌, List, ◌≡◌, ℕ, ◌+◌, ◌-◌, ◌*◌, ◌<◌, leb, ltb, eqb, get_or, set}
 use Rattle.frame.specs.declared.Message.{Message}
 use Rattle.post.specs.declared.Post.{Post}
 use Rattle.bench.specs.{declared.Night.{Night}, declared.commands.Change.{Change}, declared.lines.Header.{Header}, declared.lines.Command.{Command}}

@@ -1,5 +1,6 @@
 -- Lines: the one being read, and which header or command a line is.
-use Rattle.laws.specs.{Words.{Bool, false, not, cond, ◌&&◌, List, ◌∷◌, ◌++◌, map, ℕ, ◌+◌, ltb, eqb, take, replicate, set}, Lists.{keep}}
+use Rattle.std.specs.Prelude.{Bool, false, not, cond, ◌&&◌, List, ◌∷◌, ◌++◌, map, ℕ, ◌+◌, ltb, eqb, take, replicate, set}
+use Rattle.laws.specs.Lists.{keep}
 use Rattle.laws.specs.Search.{first, same, from, pairs}
 use Rattle.bench.specs.{declared.Line.{Line}, declared.lines.Header.{Header}, declared.lines.Command.{Command}}
 use Rattle.bench.specs.{declared.lines.Command.TheVariants.{Take, Return, Deliver, Unknown}, Text.{decimal, text}}

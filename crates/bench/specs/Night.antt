@@ -1,5 +1,6 @@
 -- A night: the records, the messages sent, and how far each post has read of each other's. What a command does to it.
-use Rattle.laws.specs.{Words.{Bool, false, cond, ◌&&◌, List, [], ◌∷◌, map, ℕ, ◌+◌, ◌*◌, leb, ltb, eqb, get_or, take, drop, replicate, set}, Search.{from}}
+use Rattle.std.specs.Prelude.{Bool, false, cond, ◌&&◌, List, [], ◌∷◌, map, ℕ, ◌+◌, ◌*◌, leb, ltb, eqb, get_or, take, drop, replicate, set}
+use Rattle.laws.specs.Search.{from}
 use Rattle.frame.specs.{declared.Message.{Message}, Message.{blank, by}, Frame.{size, fields_of, bytes_after}}
 use Rattle.calls.specs.{Start.{starting}, Own.{Own, taking, returning}}
 use Rattle.post.specs.{declared.Post.{Post}, Calls.{Outcome, started, spoke, received}}

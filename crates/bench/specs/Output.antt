@@ -1,5 +1,5 @@
 -- The whole output for a whole input, line by line.
-use Rattle.laws.specs.Words.{false, cond, List, [], ◌∷◌, ◌++◌, ℕ, ◌+◌, ◌<◌, ltb, eqb, length}
+use Rattle.std.specs.Prelude.{false, cond, List, [], ◌∷◌, ◌++◌, ℕ, ◌+◌, ◌<◌, ltb, eqb, length}
 use Rattle.bench.specs.{declared.Night.{Night}, declared.lines.Header.{Header}, declared.lines.Command.{Command}, declared.lines.Command.TheVariants.{Unknown}, Text.{answer_line, bad_header}}
 use Rattle.bench.specs.{Lines.{header_of, command_of}, Night.{begun, ran}, Bench.{closing}}
 

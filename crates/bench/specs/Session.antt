@@ -1,5 +1,5 @@
 -- Feeding a bench piece by piece until all is used or it is over, and finishing it. What is stated of it; `proofs/WholeNights` proves it.
-use Rattle.laws.specs.Words.{true, false, List, [], ◌∷◌, ◌++◌, ◌≡◌, ◌⊎◌, ℕ, ◌≤◌, length, take, drop}
+use Rattle.std.specs.Prelude.{true, false, List, [], ◌∷◌, ◌++◌, ◌≡◌, ◌⊎◌, ℕ, ◌≤◌, length, take, drop}
 use Rattle.bench.specs.{declared.Bench.{Bench}, Bench.{is_over, unfed, feeding, finished, finished_bytes}, Output.{output}}
 
 -- A bench with the input that is left, and what is written from then on. A piece of the input is fed, with a buffer of at least 64 bytes;

@@ -1,5 +1,5 @@
 -- The texts that the bench reads and writes, as bytes.
-use Rattle.laws.specs.Words.{Bool, cond, List, [], ◌∷◌, ◌++◌, ℕ}
+use Rattle.std.specs.Prelude.{Bool, cond, List, [], ◌∷◌, ◌++◌, ℕ}
 use Rattle.text.specs.Decimal.{digits}
 use Rattle.bench.specs.{declared.lines.Command.{Command}, declared.lines.Command.TheVariants.{Take, Return, Deliver, Unknown}}
 

@@ -1,5 +1,6 @@
 -- For each public function: two results that meet its promise are equal, and so are the lent bytes after them.
-use Rattle.laws.specs.{Words.{List, ◌≡◌, ℕ}, One.{One, OneAfter}}
+use Rattle.std.specs.Prelude.{List, ◌≡◌, ℕ}
+use Rattle.laws.specs.One.{One, OneAfter}
 use Rattle.bench.specs.{declared.Bench.{Bench}, declared.Fed.{Fed}, declared.Finished.{Finished}, Bench.{unfed, feeding, Feeds, finished, finished_bytes, Ends}}
 
 pub record Unique : Type 0 where

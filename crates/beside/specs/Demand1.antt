@@ -1,6 +1,7 @@
 -- Demand 1, of every record, call, start and frame: the number is that of the first row of document 01's table that applies, and a refusal changes nothing.
 -- That the code gives this for every input, and ends, is in its contracts (`src/`), which have no `requires`. `proofs/Demand1` proves what is stated here.
-use Rattle.laws.specs.{Words.{◌≡◌, not, List, [], ◌∷◌, ℕ, T, pos, length}, Ladder.{Row, ◌when◌, refusal}}
+use Rattle.std.specs.Prelude.{◌≡◌, not, List, [], ◌∷◌, ℕ, T, pos, length}
+use Rattle.laws.specs.Ladder.{Row, ◌when◌, refusal}
 use Rattle.frame.specs.{declared.Message.{Message}, Message.{blank}, Frame.{fields_of, read_rows, read_frame, write_no, bytes_after}}
 use Rattle.calls.specs.{declared.Start.{Start}, Start.{starting, in_range}}
 use Rattle.calls.specs.Replies.{Call, own_call, receive_call, value_call, missing_call, Reply, worth, lacking, refusing}

@@ -1,5 +1,6 @@
 -- Demand 2: the short record answers as the full queue does. What is stated; `proofs/` proves it.
-use Rattle.laws.specs.{Words.{◌≡◌, not, List, [], ◌∷◌, map, ℕ, T}, Big.{Bytes}}
+use Rattle.std.specs.Prelude.{◌≡◌, not, List, [], ◌∷◌, map, ℕ, T}
+use Rattle.laws.specs.Big.{Bytes}
 use Rattle.calls.specs.{declared.Start.{Start}, Start.{in_range}}
 use Rattle.calls.specs.Replies.{Call, own_call, receive_call, value_call, missing_call, after, replies}
 use Rattle.frame.specs.Frame.{frame, fields_of}

@@ -1,5 +1,5 @@
 -- Demand 3 said of boards: of what they were asked, what they answered and what they wrote, and of nothing else. `proofs/Demand3` proves it.
-use Rattle.laws.specs.Words.{cond, List, [], ◌∷◌, ◌++◌, map, ◌≡◌, ◌⊎◌, ◌↔◌, ℕ, ◌+◌, ◌≤◌, ◌<◌, leb, eqb, length, ◌&&◌}
+use Rattle.std.specs.Prelude.{cond, List, [], ◌∷◌, ◌++◌, map, ◌≡◌, ◌⊎◌, ◌↔◌, ℕ, ◌+◌, ◌≤◌, ◌<◌, leb, eqb, length, ◌&&◌}
 use Rattle.laws.specs.{Lists.{In, keep, many, final, Begins, put, upto}, Below.{sum_to, count_to}}
 use Rattle.frame.specs.{declared.Message.{Message}, Message.{blank, is_take, is_return, counted, stamp, by}, Frame.{fields_of}}
 use Rattle.calls.specs.declared.Start.{Start}

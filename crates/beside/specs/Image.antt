@@ -1,5 +1,6 @@
 -- The short record that a full queue comes to: every field is a function of the queue.
-use Rattle.laws.specs.{Words.{List, [], ◌∷◌, ℕ, zero, suc}, Lists.{many}}
+use Rattle.std.specs.Prelude.{List, [], ◌∷◌, ℕ, zero, suc}
+use Rattle.laws.specs.Lists.{many}
 use Rattle.frame.specs.Message.{is_take, is_return}
 use Rattle.post.specs.{declared.Post.{Post}, Record.{record_of}}
 use Rattle.calls.specs.declared.Start.{Start}

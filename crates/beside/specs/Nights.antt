@@ -1,6 +1,7 @@
 -- Document 01's nights P1 to P10: for each, the calls at one post, every reply in full, and what the post has at the end.
 -- `proofs/NightsHold` reckons all of them through, over the short record and over the full queue.
-use Rattle.laws.specs.{Words.{Bool, true, false, List, [], ◌∷◌, ◌++◌, map, ◌≡◌, ℕ, ◌^◌, pos, negsuc}, Lists.{many}}
+use Rattle.std.specs.Prelude.{Bool, true, false, List, [], ◌∷◌, ◌++◌, map, ◌≡◌, ℕ, ◌^◌, pos, negsuc}
+use Rattle.laws.specs.Lists.{many}
 use Rattle.frame.specs.{declared.Message.{Message}, Message.{msg, take_kind, return_kind, ack_kind, is_take, is_return, stamp_of}, Frame.{frame}}
 use Rattle.calls.specs.{declared.Start.{Start}, Start.{starting}, Own.{taking, returning}}
 use Rattle.calls.specs.Replies.{Call, own_call, receive_call, value_call, missing_call, Reply, told, worth, lacking, refusing, after, replies}

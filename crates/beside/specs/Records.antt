@@ -1,5 +1,6 @@
 -- Demand 3 over records and bytes: posts that keep short records, and frames that travel as they were written.
-use Rattle.laws.specs.{Words.{Bool, false, not, cond, ◌&&◌, List, [], ◌∷◌, ◌++◌, map, ◌≡◌, ℕ, ◌+◌, ◌≤◌, ◌<◌, ltb, eqb, length, drop}, Below.{sum_to, count_to}}
+use Rattle.std.specs.Prelude.{Bool, false, not, cond, ◌&&◌, List, [], ◌∷◌, ◌++◌, map, ◌≡◌, ℕ, ◌+◌, ◌≤◌, ◌<◌, ltb, eqb, length, drop}
+use Rattle.laws.specs.Below.{sum_to, count_to}
 use Rattle.frame.specs.Frame.{frame}
 use Rattle.calls.specs.Replies.{Call, own_call, receive_call}
 use Rattle.post.specs.declared.Post.{Post}

@@ -1,5 +1,5 @@
 -- What can be read off a reply.
-use Rattle.laws.specs.Words.{Bool, cond, List, [], ◌∷◌, ℕ, eqb, take}
+use Rattle.std.specs.Prelude.{Bool, cond, List, [], ◌∷◌, ℕ, eqb, take}
 use Rattle.frame.specs.Frame.{size}
 use Rattle.calls.specs.Replies.{Reply, told, worth, lacking}
 

@@ -1,5 +1,5 @@
 -- The own calls, by which a post sends a message: a row each.
-use Rattle.laws.specs.Words.{ℕ}
+use Rattle.std.specs.Prelude.{ℕ}
 use Rattle.frame.specs.Message.{take_kind, return_kind}
 
 pub data Own : Type 0 where

@@ -1,5 +1,6 @@
 -- What a post is started with.
-use Rattle.laws.specs.{Words.{Bool, [], ◌∷◌, ℕ, leb, ltb}, Ladder.{every}}
+use Rattle.std.specs.Prelude.{Bool, [], ◌∷◌, ℕ, leb, ltb}
+use Rattle.laws.specs.Ladder.{every}
 use Rattle.calls.specs.declared.Start.{Start}
 
 abbrev pub starting : ℕ → ℕ → ℕ → ℕ → Start

@@ -1,5 +1,6 @@
 -- The table of refusals for the calls of a post: what is given and when, in the order of the tests. n is the length of the lent buffer.
-use Rattle.laws.specs.{Words.{Bool, not, ◌&&◌, ◌||◌, List, [], ◌∷◌, ◌++◌, ℕ, leb, ltb, eqb, length}, Ladder.{Row, ◌when◌}}
+use Rattle.std.specs.Prelude.{Bool, not, ◌&&◌, ◌||◌, List, [], ◌∷◌, ◌++◌, ℕ, leb, ltb, eqb, length}
+use Rattle.laws.specs.Ladder.{Row, ◌when◌}
 use Rattle.frame.specs.{declared.Message.{Message}, Message.{take_kind, ack_kind, counted, last_counter}, Frame.{size, fields_of, form_rows}}
 use Rattle.calls.specs.{Own.{Own, row_of}, View.{View, acks}}
 

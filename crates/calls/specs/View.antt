@@ -1,5 +1,5 @@
 -- What the table of refusals looks at, in a post that keeps a short record and in one that keeps its full queue.
-use Rattle.laws.specs.Words.{Bool, ℕ}
+use Rattle.std.specs.Prelude.{Bool, ℕ}
 use Rattle.frame.specs.{declared.Message.{Message}, Message.{counted}}
 use Rattle.calls.specs.declared.Start.{Start}
 

@@ -1,5 +1,6 @@
 -- A number in bytes, high byte first: the field of `width` bytes from `at` on.
-use Rattle.laws.specs.{Words.{Bool, ◌&&◌, cond, List, ◌++◌, ℕ, ◌+◌, leb, length, take, drop}, Big.{of_be, to_be}}
+use Rattle.std.specs.Prelude.{Bool, ◌&&◌, cond, List, ◌++◌, ℕ, ◌+◌, leb, length, take, drop}
+use Rattle.laws.specs.Big.{of_be, to_be}
 
 -- the field lies in n bytes, and is at most 8 wide
 abbrev pub lies : ℕ → ℕ → ℕ → Bool

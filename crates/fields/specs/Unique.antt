@@ -1,5 +1,6 @@
 -- For each public function: two results that meet its promise are equal.
-use Rattle.laws.specs.{Words.{List, ◌≡◌, ℕ}, One.{One}}
+use Rattle.std.specs.Prelude.{List, ◌≡◌, ℕ}
+use Rattle.laws.specs.One.{One}
 use Rattle.fields.specs.Field.{field_at, with_field}
 
 pub record Unique : Type 0 where

@@ -1,5 +1,6 @@
 -- Demand 2, of frames: "Frames read back as written, and each accepted frame is the only way to write its message." `proofs/Frames` proves it.
-use Rattle.laws.specs.{Words.{List, ◌≡◌, ℕ, ◌<◌, ◌^◌, take}, Big.{Bytes}, Ladder.{refusal}}
+use Rattle.std.specs.Prelude.{List, ◌≡◌, ℕ, ◌<◌, ◌^◌, take}
+use Rattle.laws.specs.{Big.{Bytes}, Ladder.{refusal}}
 use Rattle.frame.specs.{declared.Message.{Message}, Frame.{size, frame, read_frame, write_rows, write_no, bytes_after}}
 
 -- the numbers have the widths of the code's arguments

@@ -1,5 +1,6 @@
 -- Frames: their bytes, and what reading and writing one give.
-use Rattle.laws.specs.{Words.{not, cond, List, [], ◌∷◌, ◌++◌, ◌≡◌, ℕ, ltb, eqb, length, get_or, drop}, Big.{total, fields_in, field_bytes}, Ladder.{Row, ◌when◌, refusal}}
+use Rattle.std.specs.Prelude.{not, cond, List, [], ◌∷◌, ◌++◌, ◌≡◌, ℕ, ltb, eqb, length, get_or, drop}
+use Rattle.laws.specs.{Big.{total, fields_in, field_bytes}, Ladder.{Row, ◌when◌, refusal}}
 use Rattle.frame.specs.{declared.Message.{Message}, declared.Fields.{Fields}, declared.Reading.{Reading}, Message.{msg, blank, known}}
 
 -- the bytes 46 50 4D

@@ -1,5 +1,5 @@
 -- A message: its kind and its stamp. All crates cite these.
-use Rattle.laws.specs.Words.{Bool, ◌&&◌, ◌||◌, ℕ, ◌+◌, ◌*◌, leb, eqb}
+use Rattle.std.specs.Prelude.{Bool, ◌&&◌, ◌||◌, ℕ, ◌+◌, ◌*◌, leb, eqb}
 use Rattle.frame.specs.declared.Message.{Message}
 
 -- the message of kind k that post p sends with counter c

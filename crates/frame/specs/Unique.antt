@@ -1,5 +1,6 @@
 -- For each public function: two results that meet its promise are equal, and so are the lent bytes after them.
-use Rattle.laws.specs.{Words.{List, ◌≡◌, ℕ}, Ladder.{refusal}, One.{One, OneAfter}}
+use Rattle.std.specs.Prelude.{List, ◌≡◌, ℕ}
+use Rattle.laws.specs.{Ladder.{refusal}, One.{One, OneAfter}}
 use Rattle.frame.specs.{declared.Message.{Message}, declared.Fields.{Fields}, declared.Reading.{Reading}, Frame.{fields_of, form_rows, read_frame, Written}}
 
 pub record Unique : Type 0 where

@@ -1,5 +1,4 @@
 -- What definitions are written with.
-pub mod Words  -- the kit's words
 pub mod Ladder  -- tables of refusals
 pub mod Big  -- numbers as bytes
 pub mod Lists  -- lists

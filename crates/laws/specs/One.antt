@@ -1,5 +1,5 @@
 -- A promise that leaves no choice: two results that meet it are equal, and so are the lent bytes after them.
-use Rattle.laws.specs.Words.{List, ◌≡◌, ℕ}
+use Rattle.std.specs.Prelude.{List, ◌≡◌, ℕ}
 
 abbrev pub One : (A : Type 0) → (A → Type 0) → Type 0
 One A promise = (a b : A) → promise a → promise b → a ≡ b

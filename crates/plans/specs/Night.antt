@@ -1,5 +1,5 @@
 -- A night over any plan: the posts, the messages sent, and how far each post has read of each other's. What a command does to it.
-use Rattle.laws.specs.Words.{Bool, false, cond, ◌&&◌, List, [], ◌∷◌, ◌++◌, ℕ, ◌+◌, leb, eqb, get_or, drop}
+use Rattle.std.specs.Prelude.{Bool, false, cond, ◌&&◌, List, [], ◌∷◌, ◌++◌, ℕ, ◌+◌, leb, eqb, get_or, drop}
 use Rattle.frame.specs.{declared.Message.{Message}, Message.{blank}, Frame.{fields_of, bytes_after}}
 use Rattle.calls.specs.{Start.{starting}, Own.{taking, returning}}
 use Rattle.calls.specs.Replies.{Call, own_call, receive_call, Told, Reply, told, worth, lacking, Answer}

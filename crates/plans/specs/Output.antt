@@ -1,5 +1,6 @@
 -- The whole output for a whole input, over any plan. Lines, commands and texts are the bench's.
-use Rattle.laws.specs.{Words.{false, cond, ◌&&◌, List, [], ◌∷◌, ◌++◌, ℕ, ◌+◌, leb, ltb, eqb}, Below.{count_to}}
+use Rattle.std.specs.Prelude.{false, cond, ◌&&◌, List, [], ◌∷◌, ◌++◌, ℕ, ◌+◌, leb, ltb, eqb}
+use Rattle.laws.specs.Below.{count_to}
 use Rattle.bench.specs.{declared.lines.Header.{Header}, declared.lines.Command.TheVariants.{Unknown}, Text.{answer_line, bad_header, last_line}}
 use Rattle.bench.specs.{Lines.{header_of, command_of}, Output.{lines_from}}
 use Rattle.plans.specs.{Plan.{Plan}, Night.{Night, begun, ran}}

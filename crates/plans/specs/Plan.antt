@@ -1,5 +1,5 @@
 -- A plan is a kind of post: how one starts, what a call does to it, and which phase it is in.
-use Rattle.laws.specs.Words.{[], ℕ}
+use Rattle.std.specs.Prelude.{[], ℕ}
 use Rattle.calls.specs.{declared.Start.{Start}, Replies.{Call, Answer}}
 use Rattle.post.specs.declared.Post.{Post}
 use Rattle.queue.specs.{Queue.{Queue, phase}, Calls.{on_queue}}

@@ -1,6 +1,6 @@
 -- The manager's test: "The same feeder on the same night must show the same posts in the same order."
 -- What is stated, for every input; `proofs/` proves it.
-use Rattle.laws.specs.Words.{List, ◌≡◌, ℕ}
+use Rattle.std.specs.Prelude.{List, ◌≡◌, ℕ}
 use Rattle.bench.specs.{Bench.{unfed}, Output.{output}, Session.{Session}}
 use Rattle.plans.specs.{Plan.{basic, full}, Output.{output_over}}
 

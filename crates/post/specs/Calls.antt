@@ -1,6 +1,7 @@
 -- What each call gives back and leaves, for every record, every frame and every lent buffer.
 use Rattle.post.specs.declared.{Post.{Post}, Started.{Started}, Answer.{Answer}, Value.{Value}, Missing.{Missing}}
-use Rattle.laws.specs.{Words.{◌≡◌, Bool, true, false, not, cond, ◌&&◌, List, [], ◌∷◌, ℕ, ◌+◌, max, ltb, eqb, pos, ◌-ℤ◌, length, set}, Ladder.{Row, ◌when◌, unless}}
+use Rattle.std.specs.Prelude.{◌≡◌, Bool, true, false, not, cond, ◌&&◌, List, [], ◌∷◌, ℕ, ◌+◌, max, ltb, eqb, pos, ◌-ℤ◌, length, set}
+use Rattle.laws.specs.Ladder.{Row, ◌when◌, unless}
 use Rattle.laws.specs.{Lists.{many, put}, Below.{count_to, bits_to}}
 use Rattle.frame.specs.{declared.Message.{Message}, Message.{msg, ack_kind, counted, stamp_of, stamp, by, own_take}, Frame.{over, fields_of}}
 use Rattle.calls.specs.{declared.Start.{Start}, Start.{starting, in_range}, Own.{Own, row_of}, View.{View, acks}, Table.{own_tests, receive_tests}}

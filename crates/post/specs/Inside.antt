@@ -1,6 +1,7 @@
 -- What functions inside the crate promise each other, where a record says it best.
 use Rattle.post.specs.declared.{Post.{Post}, slots.{Seen.{Seen}, Gone.{Gone}}, arrivals.{Arrival.{Arrival}}}
-use Rattle.laws.specs.{Words.{Bool, true, ◌&&◌, List, ◌≡◌, ℕ, ◌+◌, ◌-◌, ◌^◌, ◌≤◌, ◌<◌, max, length, get_or, drop, replicate, set}, Lists.{all, many, put, rises}}
+use Rattle.std.specs.Prelude.{Bool, true, ◌&&◌, List, ◌≡◌, ℕ, ◌+◌, ◌-◌, ◌^◌, ◌≤◌, ◌<◌, max, length, get_or, drop, replicate, set}
+use Rattle.laws.specs.Lists.{all, many, put, rises}
 use Rattle.laws.specs.Ladder.{refusal}
 use Rattle.frame.specs.{declared.Message.{Message}, Message.{blank, is_take, is_return, stamp, by, own_take, own_return}, Frame.{fields_of}}
 use Rattle.post.specs.{Record.{waiting_of, remade}, Settle.{own_number}, Sound.{fair, is_blank, end_kind}, Calls.{receive_rows}}

@@ -1,5 +1,6 @@
 -- The post's short record: what its fields say, and how one is made.
-use Rattle.laws.specs.{Words.{List, [], ◌++◌, ℕ, ◌-◌, ◌^◌, length, get_or, take, replicate}, Below.{least_to}}
+use Rattle.std.specs.Prelude.{List, [], ◌++◌, ℕ, ◌-◌, ◌^◌, length, get_or, take, replicate}
+use Rattle.laws.specs.Below.{least_to}
 use Rattle.frame.specs.{declared.Message.{Message}, Message.{blank, stamp_of}}
 use Rattle.calls.specs.{declared.Start.{Start}, Start.{starting}}
 use Rattle.post.specs.declared.Post.{Post}

@@ -1,5 +1,6 @@
 -- What is settled leaves the slots in stamp order and is counted; then a numbered take is granted if there is a place for it.
-use Rattle.laws.specs.{Words.{Bool, cond, List, [], ◌∷◌, ℕ, ◌+◌, leb, eqb, length, drop}, Lists.{many, leading}}
+use Rattle.std.specs.Prelude.{Bool, cond, List, [], ◌∷◌, ℕ, ◌+◌, leb, eqb, length, drop}
+use Rattle.laws.specs.Lists.{many, leading}
 use Rattle.frame.specs.{declared.Message.{Message}, Message.{is_take, is_return, stamp, by}}
 use Rattle.post.specs.{declared.Post.{Post}, Record.{start_of, waiting_of, floor, made, record_of}}
 

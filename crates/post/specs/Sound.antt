@@ -1,5 +1,6 @@
 -- When a record is sound: document 01's rules, one definition each, in its order.
-use Rattle.laws.specs.{Words.{Bool, not, cond, ◌&&◌, ◌||◌, List, [], ◌∷◌, ℕ, ◌+◌, leb, ltb, eqb, get_or, drop}, Ladder.{every}, Lists.{all, many, rises}}
+use Rattle.std.specs.Prelude.{Bool, not, cond, ◌&&◌, ◌||◌, List, [], ◌∷◌, ℕ, ◌+◌, leb, ltb, eqb, get_or, drop}
+use Rattle.laws.specs.{Ladder.{every}, Lists.{all, many, rises}}
 use Rattle.laws.specs.Below.{all_to, sum_to}
 use Rattle.frame.specs.{declared.Message.{Message}, Message.{counted, stamp, by, own_take, own_return}}
 use Rattle.calls.specs.Start.{in_range}

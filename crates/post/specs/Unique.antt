@@ -1,5 +1,6 @@
 -- For each public function: two results that meet its promise are equal, and so are the lent bytes after them.
-use Rattle.laws.specs.{Words.{Bool, List, ◌≡◌, ℕ}, One.{One, OneAfter}}
+use Rattle.std.specs.Prelude.{Bool, List, ◌≡◌, ℕ}
+use Rattle.laws.specs.One.{One, OneAfter}
 use Rattle.calls.specs.{declared.Start.{Start}, Own.{Own}}
 use Rattle.post.specs.declared.{Post.{Post}, Started.{Started}, Answer.{Answer}, Value.{Value}, Missing.{Missing}}
 use Rattle.post.specs.{Sound.{sound}, Calls.{started, Gives, spoke, received, valued, missed}}

@@ -1,5 +1,6 @@
 -- Demand 3 over full queues: what is stated. `proofs/Demand3` proves it.
-use Rattle.laws.specs.{Words.{Bool, false, cond, List, [], ◌∷◌, ◌++◌, ◌≡◌, ◌⊎◌, ◌↔◌, ℕ, ◌+◌, ◌≤◌, ◌<◌}, Lists.{In, keep, Begins, upto}}
+use Rattle.std.specs.Prelude.{Bool, false, cond, List, [], ◌∷◌, ◌++◌, ◌≡◌, ◌⊎◌, ◌↔◌, ℕ, ◌+◌, ◌≤◌, ◌<◌}
+use Rattle.laws.specs.Lists.{In, keep, Begins, upto}
 use Rattle.frame.specs.{declared.Message.{Message}, Message.{counted, stamp}}
 use Rattle.calls.specs.{declared.Start.{Start}, Replies.{Call, Reply, told, worth, lacking, after}}
 use Rattle.queue.specs.{Queue.{Queue, settled, takes, grants, latest}, Calls.{on_queue}}

@@ -1,5 +1,6 @@
 -- A feeder: posts 0 to N - 1, each by its full queue, and runs of takes, returns and deliveries.
-use Rattle.laws.specs.{Words.{not, cond, ◌&&◌, List, [], ◌∷◌, ℕ, ◌<◌, T, ltb, eqb, length, drop, replicate}, Lists.{keep, many}, Below.{sum_to, count_to}}
+use Rattle.std.specs.Prelude.{not, cond, ◌&&◌, List, [], ◌∷◌, ℕ, ◌<◌, T, ltb, eqb, length, drop, replicate}
+use Rattle.laws.specs.{Lists.{keep, many}, Below.{sum_to, count_to}}
 use Rattle.frame.specs.{declared.Message.{Message}, Message.{is_return, by}, Frame.{size, frame}}
 use Rattle.calls.specs.{declared.Start.{Start}, Start.{in_range}, Own.{Own}, Replies.{Call, own_call, receive_call}}
 use Rattle.queue.specs.{Queue.{Queue, grants, phase}, Calls.{on_queue}}

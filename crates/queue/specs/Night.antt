@@ -1,5 +1,5 @@
 -- Document 01's bench night as acts, and the one message that it leaves on the way delivered: then all is accepted everywhere.
-use Rattle.laws.specs.Words.{List, [], ◌∷◌, ◌≡◌}
+use Rattle.std.specs.Prelude.{List, [], ◌∷◌, ◌≡◌}
 use Rattle.calls.specs.Own.{taking, returning}
 use Rattle.queue.specs.{Feeder.{Line, Feeder, fresh, Act, own_at, deliver, run, returns_sent, granted}, Demand3.{Cleared}}
 

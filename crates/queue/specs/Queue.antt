@@ -1,5 +1,6 @@
 -- A post by its full queue: every message that it sent or accepted, sorted by stamp. All else is worked out from that list.
-use Rattle.laws.specs.{Words.{Bool, not, cond, ◌&&◌, ◌||◌, List, ℕ, ◌+◌, ◌^◌, leb, ltb, eqb, ℤ, pos, ◌-ℤ◌, length}, Lists.{keep, many, final, upto, top}, Below.{all_to, least_to}}
+use Rattle.std.specs.Prelude.{Bool, not, cond, ◌&&◌, ◌||◌, List, ℕ, ◌+◌, ◌^◌, leb, ltb, eqb, ℤ, pos, ◌-ℤ◌, length}
+use Rattle.laws.specs.{Lists.{keep, many, final, upto, top}, Below.{all_to, least_to}}
 use Rattle.frame.specs.{declared.Message.{Message}, Message.{msg, return_kind, is_take, is_return, counted, stamp_of, stamp, by}}
 use Rattle.calls.specs.declared.Start.{Start}
 

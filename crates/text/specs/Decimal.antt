@@ -1,5 +1,5 @@
 -- Numbers as decimal text.
-use Rattle.laws.specs.Words.{cond, List, [], ◌∷◌, ◌++◌, ℕ, zero, suc, ◌+◌, ◌-◌, ◌*◌, ◌/◌, ◌%◌, ltb}
+use Rattle.std.specs.Prelude.{cond, List, [], ◌∷◌, ◌++◌, ℕ, zero, suc, ◌+◌, ◌-◌, ◌*◌, ◌/◌, ◌%◌, ltb}
 
 -- a number below 10 ^ k, decimal without leading zeros; of a larger one, its lowest k digits
 unfoldable pub digits : ℕ → ℕ → List ℕ

@@ -1,6 +1,6 @@
 -- A text put into a buffer from a place on.
 use Rattle.std.proofs.lemmas.List.Edits.{sets}
-use Rattle.laws.specs.Words.{cond, List, [], ◌≡◌, ℕ, ◌+◌, ◌≤◌, leb, length}
+use Rattle.std.specs.Prelude.{cond, List, [], ◌≡◌, ℕ, ◌+◌, ◌≤◌, leb, length}
 
 -- the next place, and the bytes then, as many as before
 pub record Puts (old new : List ℕ) (at : ℕ) (text : List ℕ) (next : ℕ) : Type 0 where

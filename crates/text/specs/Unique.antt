@@ -1,5 +1,6 @@
 -- For each public function: two results that meet its promise are equal, and so are the lent bytes after them.
-use Rattle.laws.specs.{Words.{List, [], ◌∷◌, ℕ}, One.{OneAfter}}
+use Rattle.std.specs.Prelude.{List, [], ◌∷◌, ℕ}
+use Rattle.laws.specs.One.{OneAfter}
 use Rattle.text.specs.{Decimal.{decimal}, Puts.{Puts, fitting}}
 
 pub record Unique : Type 0 where
