@@ -1,7 +1,7 @@
 // The bench program: reads a night as it comes, and writes its answers.
 #![tactic(auto)]
 
-ghost use Rattle.std.specs.Prelude.{◌≤◌, length, IfOk};
+ghost use Rattle.std.specs.Prelude.{◌≡◌, ◌≤◌, length, IfOk};
 
 use bench::Bench;
 use std::io;
@@ -10,7 +10,8 @@ use std::io::{Read, Write};
 // Reads behind the first `len` bytes, and answers how many there are then.
 fn read_on<R: Read>(input: &mut R, buf: &mut [u8], len: usize) -> io::Result<usize>
     requires { len ≤ length buf.old }
-    ensures { IfOk result (λ end. (len ≤ end) × (end ≤ length buf.new)) }
+    ensures end { IfOk result (λ end. (len ≤ end) × (end ≤ length buf.new)) }
+    ensures same_length { length buf.new ≡ length buf.old }
 {
     let got = input.read(&mut buf[len..])?;
     Ok(len + got)
