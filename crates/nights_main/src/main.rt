@@ -6,9 +6,10 @@ ghost use Rattle.bench.specs.Output.{output};
 
 use bench::Bench;
 use std::env::{Env, FillError};
+use std::fs::OpenOptions;
+use std::io;
 use std::io::{Read, Write};
 use std::rt::Files;
-use std::{fs, io};
 
 // A file that was read: how many bytes it has, and whether these are all.
 #[derive(Clone, Copy)]
@@ -69,7 +70,7 @@ fn fill<R: Read>(file: &mut R, buf: &mut [u8]) -> File
     }
 }
 
-fn load<R: Files>(rt: &R, path: &[u8], buf: &mut [u8]) -> File
+fn load(rt: &HostRuntime, path: &[u8], buf: &mut [u8]) -> File
     ensures { result.len ≤ length buf.new }
 {
     let none = File {
@@ -77,7 +78,7 @@ fn load<R: Files>(rt: &R, path: &[u8], buf: &mut [u8]) -> File
         whole: false,
     };
     match std::str::from_utf8(path) {
-        Ok(path) => match fs::open(rt, path) {
+        Ok(path) => match rt.open_file(OpenOptions::new().read(true), path) {
             Ok(mut file) => fill(&mut file, buf),
             Err(_) => none,
         },
@@ -95,7 +96,7 @@ enum Outcome {
 }
 
 // The night NAME: NAME.in is what the bench reads, NAME.out what it is to write.
-fn try_night<R: Files>(rt: &R, whole: [u8; 256], n: usize) -> Outcome {
+fn try_night(rt: &HostRuntime, whole: [u8; 256], n: usize) -> Outcome {
     let mut input = [0u8; 8192];
     let mut want = [0u8; 8192];
     let mut name = whole;
@@ -125,7 +126,7 @@ fn try_night<R: Files>(rt: &R, whole: [u8; 256], n: usize) -> Outcome {
 }
 
 // Writes the name of the night that argument i gives, and what came of it; 1 where it is the same.
-fn night<R: Env + Files, W: Write>(rt: &R, output: &mut W, i: usize) -> io::Result<u64>
+fn night<W: Write>(rt: &HostRuntime, output: &mut W, i: usize) -> io::Result<u64>
     ensures { IfOk result (λ k. k ≤ 1) }
 {
     let mut name = [0u8; 256];
@@ -152,7 +153,7 @@ fn night<R: Env + Files, W: Write>(rt: &R, output: &mut W, i: usize) -> io::Resu
 }
 
 // How many arguments there are, the program's own name among them.
-fn arg_count<R: Env>(rt: &R) -> usize {
+fn arg_count(rt: &HostRuntime) -> usize {
     let mut name = [0u8; 256];
     for i in 0..usize::MAX {
         if let Err(FillError::NotPresent) = rt.arg(i, &mut name) {
