@@ -1,5 +1,4 @@
 -- Why frames read one way and write one way.
-pub mod KnownKinds  -- the kinds, by the two tests of the code
 pub mod FrameFields  -- the fields of a message's frame
 pub mod Frames  -- what is written reads back, and in one way only
 mod Stored  -- the fields stored one after the other are the frame

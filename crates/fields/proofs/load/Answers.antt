@@ -70,7 +70,7 @@ overflow_cast-n c = omega arith
 pub overflow_add-n-in-loop-left : goal.overflow_add-n-in-loop-left
 overflow_add-n-in-loop-left c =
     let l = c.loop-left in
-    full _ _ (low l.n _ l.invariant.1.0 (omega arith)) (c.shared_slice_known-in-loop-left-1.given _).fits
+    full _ _ (low l.n _ l.invariant.1.0 (omega arith)) (c.type_inv.s _).fits
 
 pub loop-left-preserved : goal.loop-left-preserved
 loop-left-preserved c =
@@ -79,7 +79,7 @@ loop-left-preserved c =
     let p : 0 < l.left = omega arith in (
       (omega arith, (omega arith, omega arith)),
       (
-        grows a.width l.left p l.invariant.0.0 _ _ l.invariant.1.0 (c.shared_slice_known-in-loop-left-1.given _).fits,
+        grows a.width l.left p l.invariant.0.0 _ _ l.invariant.1.0 (c.type_inv.s _).fits,
         ap (λ (x : ℕ). x * 256 + get_or a.s.now (a.at + (a.width - l.left)) 0) l.invariant.1.1
             ∙ reads_on a.width l.left p l.invariant.0.0 a.s.now a.at (omega arith),
       ),

@@ -29,22 +29,22 @@ six : (s : List ℕ) → length s ≡ size → {mark version feeder kind sender 
 six s h a b c d e f = (λ i. fields_from (a i ∷ b i ∷ c i ∷ d i ∷ e i ∷ f i ∷ [])) ∙ ap fields_from (loads_row s 0 widths tt (omega arith))
 
 pub overflow_cast-mark : goal.overflow_cast-mark
-overflow_cast-mark c = fits _ _ _ _ _ c.shared_slice_known-1.given c.load-mark.ensures tt
+overflow_cast-mark c = fits _ _ _ _ _ c.type_inv.s c.load-mark.ensures tt
 
 pub overflow_cast-version : goal.overflow_cast-version
-overflow_cast-version c = fits _ _ _ _ _ c.shared_slice_known-1.given c.load-version.ensures tt
+overflow_cast-version c = fits _ _ _ _ _ c.type_inv.s c.load-version.ensures tt
 
 pub overflow_cast-feeder : goal.overflow_cast-feeder
-overflow_cast-feeder c = fits _ _ _ _ _ c.shared_slice_known-1.given c.load-feeder.ensures tt
+overflow_cast-feeder c = fits _ _ _ _ _ c.type_inv.s c.load-feeder.ensures tt
 
 pub overflow_cast-kind : goal.overflow_cast-kind
-overflow_cast-kind c = fits _ _ _ _ _ c.shared_slice_known-1.given c.load-kind.ensures tt
+overflow_cast-kind c = fits _ _ _ _ _ c.type_inv.s c.load-kind.ensures tt
 
 pub overflow_cast-sender : goal.overflow_cast-sender
-overflow_cast-sender c = fits _ _ _ _ _ c.shared_slice_known-1.given c.load-sender.ensures tt
+overflow_cast-sender c = fits _ _ _ _ _ c.type_inv.s c.load-sender.ensures tt
 
 pub overflow_cast-counter : goal.overflow_cast-counter
-overflow_cast-counter c = fits _ _ _ _ _ c.shared_slice_known-1.given c.load-counter.ensures tt
+overflow_cast-counter c = fits _ _ _ _ _ c.type_inv.s c.load-counter.ensures tt
 
 pub returns-then-s-eq-SIZE : goal.returns-then-s-eq-SIZE
 unfolding fields_of
