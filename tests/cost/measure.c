@@ -1,10 +1,19 @@
 /* Reads blocks, makes each block's call so often as it says, and writes what came of it: the calls by
-   value, or in place with -DIN_PLACE. measure.rattle is the same program over the Rattle post. */
+   value, in place with -DIN_PLACE, or the Rattle post's, which measure.rattle makes, with -DRATTLE. */
 #include "block.h"
 
 #include <string.h>
 #include <unistd.h>
 
+#ifdef RATTLE
+/* A slice comes as a pointer and a length. */
+void measure_turn(const uint8_t *block, size_t length, uint8_t *out, size_t size);
+
+static void turn(const uint8_t block[BLOCK], uint8_t out[RESULT])
+{
+    measure_turn(block, BLOCK, out, RESULT);
+}
+#else
 static void turn(const uint8_t block[BLOCK], uint8_t out[RESULT])
 {
     const uint8_t call = block[0], times = block[1], len = block[2], size = block[3];
@@ -53,6 +62,7 @@ static void turn(const uint8_t block[BLOCK], uint8_t out[RESULT])
     memcpy(out, buf, LENT);
     put_post(out + LENT, &a.post);
 }
+#endif
 
 int main(void)
 {
