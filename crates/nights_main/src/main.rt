@@ -1,13 +1,12 @@
 // The nights program: runs the bench on each stored night that an argument names, and says whether it writes what is stored.
 #![tactic(auto)]
 
-ghost use Rattle.std.specs.Prelude.{◌≡◌, true, ◌||◌, ◌≤◌, leb, length, IfOk};
+ghost use Rattle.std.specs.Prelude.{◌≡◌, true, ◌||◌, ◌≤◌, leb, length, take};
 ghost use Rattle.bench.specs.Output.{output};
 
 use bench::Bench;
 use std::env::{Env, FillError};
 use std::fs::OpenOptions;
-use std::io;
 use std::io::{Read, Write};
 use std::rt::Files;
 
@@ -53,7 +52,7 @@ fn holds(input: &[u8], want: &[u8]) -> bool
 
 // Reads a file that fits the buffer.
 fn fill<R: Read>(file: &mut R, buf: &mut [u8]) -> File
-    ensures { result.len ≤ length buf.new }
+    ensures { (result.len ≤ length buf.new) × (result.len ≡ length (take result.len buf.new)) }
 {
     let mut len = 0;
     while len < buf.len() {
@@ -71,7 +70,7 @@ fn fill<R: Read>(file: &mut R, buf: &mut [u8]) -> File
 }
 
 fn load(rt: &HostRuntime, path: &[u8], buf: &mut [u8]) -> File
-    ensures { result.len ≤ length buf.new }
+    ensures { (result.len ≤ length buf.new) × (result.len ≡ length (take result.len buf.new)) }
 {
     let none = File {
         len: 0,
@@ -126,8 +125,8 @@ fn try_night(rt: &HostRuntime, whole: [u8; 256], n: usize) -> Outcome {
 }
 
 // Writes the name of the night that argument i gives, and what came of it; 1 where it is the same.
-fn night<W: Write>(rt: &HostRuntime, output: &mut W, i: usize) -> io::Result<u64>
-    ensures { IfOk result (λ k. k ≤ 1) }
+fn night<W: Write>(rt: &HostRuntime, output: &mut W, i: usize) -> u64
+    ensures { result ≤ 1 }
 {
     let mut name = [0u8; 256];
     // a name that is missing or too long is taken for an empty one
@@ -135,19 +134,19 @@ fn night<W: Write>(rt: &HostRuntime, output: &mut W, i: usize) -> io::Result<u64
         Ok(n) => n,
         Err(_) => 0,
     };
-    output.write_all(&name[..n])?;
+    let _ = output.write_all(&name[..n]);
     match try_night(rt, name, n) {
         Outcome::Same => {
-            output.write_all(b" same\n")?;
-            Ok(1)
+            let _ = output.write_all(b" same\n");
+            1
         }
         Outcome::Differs => {
-            output.write_all(b" differs\n")?;
-            Ok(0)
+            let _ = output.write_all(b" differs\n");
+            0
         }
         Outcome::Unread => {
-            output.write_all(b" cannot be read\n")?;
-            Ok(0)
+            let _ = output.write_all(b" cannot be read\n");
+            0
         }
     }
 }
@@ -163,15 +162,15 @@ fn arg_count(rt: &HostRuntime) -> usize {
     usize::MAX
 }
 
-fn main(rt: HostRuntime) -> io::Result<()> {
+fn main(rt: HostRuntime) {
     let mut output = rt.stdout();
     let nights = arg_count(&rt);
     let mut same = 0u64;
     let mut i = 1;
     while i < nights {
-        same += night(&rt, &mut output, i)?;
+        same += night(&rt, &mut output, i);
         i += 1;
     }
     let nights = i - 1;
-    println!(rt; "{same} of {nights} nights are the same")
+    let _ = println!(rt; "{same} of {nights} nights are the same");
 }

@@ -32,12 +32,12 @@ slice_bounds-write_all-end c =
 
 pub overflow_add-at : goal.overflow_add-at
 overflow_add-at c =
-    let u = used_few _ (c.in_ok-end.end - c.loop-at.at) _ _ _ _ c.feed-f.ensures in
+    let u = used_few _ (c.read_on-end.result - c.loop-at.at) _ _ _ _ c.feed-f.ensures in
     record { fits = omega arith }
 
 pub loop-at-preserved : goal.loop-at-preserved
 loop-at-preserved c =
-    let u = used_few _ (c.in_ok-end.end - c.loop-at.at) _ _ _ _ c.feed-f.ensures in
+    let u = used_few _ (c.read_on-end.result - c.loop-at.at) _ _ _ _ c.feed-f.ensures in
     let f = fed_fits _ _ _ _ _ c.feed-f.ensures in
     let l = f.2 in
     (omega arith, omega arith, omega arith, omega arith)
