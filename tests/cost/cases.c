@@ -2,8 +2,8 @@
                            and prints the row that each stands for
    cases sizes             prints the bytes of a block, of what comes of it, of its record, and of the
                            record in memory
-   cases random SEED N     makes N random calls on records of random feeders, good and bad, and writes their
-                           blocks */
+   cases random SEED N M   makes N random calls on records of random feeders, good and bad, and writes the
+                           block of every M-th */
 #include "block.h"
 
 #include <stdio.h>
@@ -253,7 +253,7 @@ static void spoil_frame(uint8_t frame[LENT], uint8_t *len)
         frame[at] = (uint8_t)(below(3) == 0 ? below(256) : below(2) == 0 ? frame[at] + 1 : below(17));
 }
 
-static void write_random(long n)
+static void write_random(long n, long every)
 {
     static struct feeder f;
     uint8_t block[BLOCK], frame[LENT], buf[LENT];
@@ -284,7 +284,7 @@ static void write_random(long n)
         }
         if (below(12) == 0)
             spoil_byte(block + 4 + LENT, r->waits);
-        if (fwrite(block, 1, BLOCK, stdout) != BLOCK)
+        if (i % every == 0 && fwrite(block, 1, BLOCK, stdout) != BLOCK)
             exit(1);
 
         /* The feeder goes on by the good call. */
@@ -311,9 +311,9 @@ int main(int argc, char **argv)
         write_rows();
     } else if (argc == 2 && strcmp(argv[1], "sizes") == 0) {
         printf("%d %d %d %zu\n", BLOCK, RESULT, RECORD, sizeof(struct post));
-    } else if (argc == 4 && strcmp(argv[1], "random") == 0) {
+    } else if (argc == 5 && strcmp(argv[1], "random") == 0) {
         state = strtoull(argv[2], NULL, 10);
-        write_random(strtol(argv[3], NULL, 10));
+        write_random(strtol(argv[3], NULL, 10), strtol(argv[4], NULL, 10));
     } else {
         return 2;
     }
