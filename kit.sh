@@ -10,7 +10,7 @@ tools=$kit/toolchain
 loader=$tools/lib/ld-linux-x86-64.so.2
 [ -x "$loader" ] || die "the kit has no loader for x86-64 programs at toolchain/lib."
 
-is_stale() { # FILE: it is missing, or older than a crate's text
+is_stale() { # FILE: it is missing, or older than a crate's text; asked at the top of the repository
     [ ! -f "$1" ] || [ -n "$(find crates.txt crates -name out -prune -o -type f -newer "$1" -print -quit)" ]
 }
 

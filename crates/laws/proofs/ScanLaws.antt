@@ -21,6 +21,10 @@ module _ {A : Type 0} where
   all_at f (x ∷ xs) t a (inr i) = all_at f xs (and_r (f x) (all f xs) t) a i
   all_at f [] t a i = absurd i
 
+  -- of the first n there are at most m
+  pub taken_few : (n m : ℕ) (l : List A) → n ≤ length l → n ≤ m → length (take n l) ≤ m
+  taken_few n m l h k = let e = length-take-le n l h in omega arith
+
   -- from i on: one and those after it, as the code counts
   pub next_drop : (l : List A) (i : ℕ) (d : A) → i < length l → drop i l ≡ get_or l i d ∷ drop (i + 1) l
   next_drop l i d h = drop-cons l i d h ∙ ap (λ (j : ℕ). get_or l i d ∷ drop j l) (sym (add-one i))

@@ -5,15 +5,12 @@ use mathlib.Core.Path.{◌≡◌}
 use mathlib.Core.List.{List, ◌∷◌}
 use native.Mathlib.Omega.{arith}
 use lib.ListN.{length, get_or, take}
-use lib.Seq.{slice, length-take-le}
-use Rattle.laws.proofs.ScanLaws.{one_left, none_left}
+use lib.Seq.{slice}
+use Rattle.laws.proofs.ScanLaws.{taken_few, one_left, none_left}
 use Rattle.frame.specs.Message.{blank}
 use Rattle.post.proofs.Works.Leaving.{Leaves, begun, ended, stopped, turned, small}
 use Rattle.frame.specs.declared.Message.{Message}
 use Rattle.post.proofs.slots.leaving.Goals as goal
-
-few : (n : ℕ) (slots : List Message) → length slots ≡ 62 → n ≤ 62 → length (take n slots) ≤ 62
-few n slots l h = let w = length-take-le n slots (omega arith) in omega arith
 
 -- the message that is looked at, and those after it
 leaves : {own takes floor n : ℕ} (slots : List Message) {i tk rt order : ℕ} → length slots ≡ 62 → n ≤ 62 → i < n
@@ -28,13 +25,13 @@ pub returns-then-floor-stamp : goal.returns-then-floor-stamp
 returns-then-floor-stamp c = stopped _ _ _ _ (leaves c.args.slots (search rules) (omega arith) (omega arith) c.loop-i.invariant.1) (let e = c.stamp.ensures in omega arith)
 
 pub number_of-order-requires : goal.number_of-order-requires
-number_of-order-requires c = (small _ _ _ _ (search rules) (few c.args.n c.args.slots (search rules) (omega arith)) (leaves c.args.slots (search rules) (omega arith) (omega arith) c.loop-i.invariant.1)).0
+number_of-order-requires c = (small _ _ _ _ (search rules) (taken_few c.args.n 62 c.args.slots (omega arith) (omega arith)) (leaves c.args.slots (search rules) (omega arith) (omega arith) c.loop-i.invariant.1)).0
 
 pub one_kind-tk-requires : goal.one_kind-tk-requires
-one_kind-tk-requires c = (small _ _ _ _ (search rules) (few c.args.n c.args.slots (search rules) (omega arith)) (leaves c.args.slots (search rules) (omega arith) (omega arith) c.loop-i.invariant.1)).0
+one_kind-tk-requires c = (small _ _ _ _ (search rules) (taken_few c.args.n 62 c.args.slots (omega arith) (omega arith)) (leaves c.args.slots (search rules) (omega arith) (omega arith) c.loop-i.invariant.1)).0
 
 pub one_kind-rt-requires : goal.one_kind-rt-requires
-one_kind-rt-requires c = (small _ _ _ _ (search rules) (few c.args.n c.args.slots (search rules) (omega arith)) (leaves c.args.slots (search rules) (omega arith) (omega arith) c.loop-i.invariant.1)).1
+one_kind-rt-requires c = (small _ _ _ _ (search rules) (taken_few c.args.n 62 c.args.slots (omega arith) (omega arith)) (leaves c.args.slots (search rules) (omega arith) (omega arith) c.loop-i.invariant.1)).1
 
 pub loop-i-preserved : goal.loop-i-preserved
 loop-i-preserved c = (omega arith, turned _ _ _ _ (leaves c.args.slots (search rules) (omega arith) (omega arith) c.loop-i.invariant.1) (let e = c.stamp.ensures in omega arith) c.one_kind-tk.ensures c.one_kind-rt.ensures c.number_of-order.ensures)

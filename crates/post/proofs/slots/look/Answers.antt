@@ -6,18 +6,15 @@ use mathlib.Core.List.{List, ◌∷◌}
 use native.Mathlib.Omega.{arith}
 use borrow.Author.Tests.{eq-eqb, ne_eqb}
 use lib.ListN.{length, get_or, take, drop}
-use lib.Seq.{slice, length-take-le}
+use lib.Seq.{slice}
 use Rattle.laws.specs.Lists.{all}
-use Rattle.laws.proofs.ScanLaws.{one_left, none_left}
+use Rattle.laws.proofs.ScanLaws.{taken_few, one_left, none_left}
 use Rattle.frame.specs.Message.{blank}
 use Rattle.post.specs.Sound.{is_blank}
 use Rattle.post.proofs.Works.Looking.{Going, begun, foreign, unfit, low, takes_small, returns_small, each_small, turned, looked, wrong, used, full_slot, blank_slot, no_slot}
 use Rattle.frame.specs.declared.Message.{Message}
 use Rattle.post.proofs.slots.look.Goals as goal
 use Rattle.post.proofs.slots.look.Goals.{then-m-own, else-m-own}
-
-few : (n : ℕ) (slots : List Message) → length slots ≡ 62 → n ≤ 62 → length (take n slots) ≤ 62
-few n slots l h = let w = length-take-le n slots (omega arith) in omega arith
 
 -- the message that is looked at, and those after it
 going : {posts own floor n : ℕ} {last : List ℕ} (slots : List Message) {i top takes returns end : ℕ} {counts : List ℕ} → length slots ≡ 62 → n ≤ 62 → i < n
@@ -41,14 +38,14 @@ returns-then-t-top c = wrong _ _ _ _ _ _ c.disorderly-then-t-top.ensures (low _ 
 pub overflow_add-counts : goal.overflow_add-counts
 overflow_add-counts c =
     let q = (get_or c.args.slots c.loop-i.i blank).sender in
-    let h = each_small _ _ _ _ _ (going c.args.slots (search rules) (omega arith) (omega arith) c.loop-i.invariant.1) (few c.args.n c.args.slots (search rules) (omega arith)) q (omega arith) in
+    let h = each_small _ _ _ _ _ (going c.args.slots (search rules) (omega arith) (omega arith) c.loop-i.invariant.1) (taken_few c.args.n 62 c.args.slots (omega arith) (omega arith)) q (omega arith) in
     record { fits = omega arith }
 
 pub one_kind-takes-requires : goal.one_kind-takes-requires
-one_kind-takes-requires c = let h = takes_small _ _ _ _ _ (going c.args.slots (search rules) (omega arith) (omega arith) c.loop-i.invariant.1) (few c.args.n c.args.slots (search rules) (omega arith)) in omega arith
+one_kind-takes-requires c = let h = takes_small _ _ _ _ _ (going c.args.slots (search rules) (omega arith) (omega arith) c.loop-i.invariant.1) (taken_few c.args.n 62 c.args.slots (omega arith) (omega arith)) in omega arith
 
 pub one_kind-returns-requires : goal.one_kind-returns-requires
-one_kind-returns-requires c = let h = returns_small _ _ _ _ _ (going c.args.slots (search rules) (omega arith) (omega arith) c.loop-i.invariant.1) (few c.args.n c.args.slots (search rules) (omega arith)) in omega arith
+one_kind-returns-requires c = let h = returns_small _ _ _ _ _ (going c.args.slots (search rules) (omega arith) (omega arith) c.loop-i.invariant.1) (taken_few c.args.n 62 c.args.slots (omega arith) (omega arith)) in omega arith
 
 pub loop-i-preserved : goal.loop-i-preserved
 loop-i-preserved c =
