@@ -8,43 +8,29 @@ ghost use Rattle.fields.specs.Field.{lies, field_at, with_field};
 fn lies(len: usize, at: usize, width: usize) -> bool
     ensures { result ≡ lies len at width }
 {
-    if 8 < width {
-        return false;
-    }
-    if len < width {
-        return false;
-    }
-    at <= len - width
+    width <= 8 && width <= len && at <= len - width
 }
 
 // The number in the `width` bytes from `at` on; 0 where they do not lie in `s` or are more than 8.
+#[tactic(auto, using(crate::proofs::Eight::loads), unfolding(crate::specs::Field::field_at))]
 pub fn load(s: &[u8], at: usize, width: usize) -> u64
     ensures { result ≡ field_at s.now at width }
 {
     if !lies(s.len(), at, width) {
         return 0;
     }
-    let mut n: u64 = 0;
-    let mut left = width;
-    while 0 < left {
-        n = n * 256 + s[at + (width - left)] as u64;
-        left -= 1;
-    }
-    n
+    let mut bytes = [0; 8];
+    bytes[8 - width..].copy_from_slice(&s[at..at + width]);
+    u64::from_be_bytes(bytes)
 }
 
 // Puts the lowest `width` bytes of `n` from `at` on; changes nothing where they do not lie in `buf` or are more than 8.
+#[tactic(auto, using(crate::proofs::Eight::stores), unfolding(crate::specs::Field::with_field))]
 pub fn store(buf: &mut [u8], at: usize, width: usize, n: u64)
     ensures { buf.new ≡ with_field buf.old at width n }
 {
     if !lies(buf.len(), at, width) {
         return;
     }
-    let mut rest = n;
-    let mut done = 0;
-    while done < width {
-        done += 1;
-        buf[at + (width - done)] = (rest % 256) as u8;
-        rest = rest / 256;
-    }
+    buf[at..at + width].copy_from_slice(&n.to_be_bytes()[8 - width..]);
 }

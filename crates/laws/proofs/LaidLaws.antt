@@ -1,9 +1,9 @@
 -- A list over a part of another: it stands there, the places before and after it stay, and the length stays. Assumes nothing.
-use mathlib.Core.Path.{◌≡◌, refl, ap, ◌∙◌, sym}
-use mathlib.Core.List.{List, [], ◌∷◌, ◌++◌, append_assoc}
-use Prim.Native.Nat.{ℕ, zero, suc, ◌+◌, ◌-◌, ◌≤◌, ◌<◌}
+use mathlib.Core.Path.{◌≡◌, ap, ◌∙◌, sym}
+use mathlib.Core.List.{List, ◌++◌, append_assoc}
+use Prim.Native.Nat.{ℕ, ◌+◌, ◌-◌, ◌≤◌}
 use native.Mathlib.Omega.{arith}
-use lib.ListN.{length, take, drop, set, take-append-drop, length-append, length-drop}
+use lib.ListN.{length, take, drop, take-append-drop, length-append, length-drop}
 use lib.Seq.{take_at, drop_at, take-append-le, drop-append-le, drop-drop, length-take-le}
 
 module _ {A : Type 0} where
@@ -17,12 +17,6 @@ module _ {A : Type 0} where
       ap (λ (r : List A). take i s ++ (take w (drop i s) ++ r)) (sym (drop-drop w i s))
       ∙ ap (λ (r : List A). take i s ++ r) (take-append-drop w (drop i s))
       ∙ take-append-drop i s
-
-  -- one element more, on the low side
-  pub set-taken : (s r : List A) (k : ℕ) (a : A) → k < length s → set (take (suc k) s ++ r) k a ≡ take k s ++ (a ∷ r)
-  set-taken [] r k a h = absurd (omega arith)
-  set-taken (x ∷ s) r zero a h = refl
-  set-taken (x ∷ s) r (suc k) a h = ap (λ (l : List A). x ∷ l) (set-taken s r k a (omega arith))
 
   -- v elements from j on, of a joined list, where they stand in the first
   in_first : (p q : List A) (j v : ℕ) → j + v ≤ length p → take v (drop j (p ++ q)) ≡ take v (drop j p)
