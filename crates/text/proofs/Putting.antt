@@ -1,14 +1,13 @@
 -- Texts put one after the other into a buffer are one text. Assumes nothing.
 use mathlib.Core.Path.{◌≡◌, refl, ap, ◌∙◌, sym}
-use mathlib.Core.List.{List, [], ◌∷◌, ◌++◌}
-use Prim.Native.Nat.{ℕ, ◌+◌, ◌-◌, ◌≤◌, ◌<◌}
+use mathlib.Core.List.{List, [], ◌++◌}
+use Prim.Native.Nat.{ℕ, ◌+◌, ◌-◌, ◌≤◌}
 use native.Mathlib.Omega.{arith}
-use native.Mathlib.Numerals.{add-one}
-use borrow.Author.Tests.{le-leb, lt-leb}
-use lib.Dec.{leb, leb→le, le→leb}
-use lib.ListN.{length, get_or, set, take, length-append}
-use lib.Seq.{sets, length-sets, take-suc, take_all, length-take-le}
-use Rattle.laws.proofs.Tests.{same_test}
+use borrow.Rule.Slice.PartMut.{put_mid}
+use borrow.Author.Tests.{le-leb}
+use lib.ListN.{length, take, length-append}
+use lib.Seq.{sets, sets-eq, take_all}
+use Rattle.std.proofs.lemmas.Slice.{put_mid-paste}
 use Rattle.laws.proofs.StoreLaws.{sets_append, take_sets}
 use Rattle.text.specs.Puts.{Puts, fitting, Lays}
 
@@ -36,22 +35,13 @@ pub room : (old : List ℕ) (at : ℕ) (text : List ℕ) → at + length text �
 unfolding fitting
 room old at text h = rw (le-leb (at + length text) (length old) h)
 
-pub no_room : (old : List ℕ) (at : ℕ) (text : List ℕ) → length old < at + length text → fitting old at text ≡ []
-unfolding fitting
-no_room old at text h = rw (lt-leb (at + length text) (length old) h)
-
-pub puts_all : {old new : List ℕ} {at : ℕ} {text : List ℕ} {next : ℕ} → at + length text ≤ length old → Puts old new at text next → Puts old new at (fitting old at text) next
-puts_all {old} {new} {at} {text} h p = spelled (sym (room old at text h)) p
-
-pub puts_none : (old : List ℕ) (at : ℕ) (text : List ℕ) → length old < at + length text → Puts old old at (fitting old at text) at
-puts_none old at text h = spelled (sym (no_room old at text h)) (nothing old at)
-
--- a sum that may be too large, tested by a difference
-pub fits_behind : (len at n : ℕ) → at ≤ len → leb n (len - at) ≡ leb (at + n) len
-fits_behind len at n h =
-    same_test (leb n (len - at)) (leb (at + n) len)
-    (λ t. let k = leb→le n (len - at) t in le→leb (at + n) len (omega arith))
-    (λ t. let k = leb→le (at + n) len t in le→leb n (len - at) (omega arith))
+-- a word laid over the bytes from a place on
+pub laid_over : (old w part : List ℕ) (at : ℕ) → at + length w ≤ length old → part ≡ w → put_mid at (at + length w - at) old part ≡ sets old at w
+laid_over old w part at h e =
+    let p = put_mid-paste at (at + length w - at) old part w (length w) e (omega arith) refl in
+    let q = take_all (length w) w (omega arith) in
+    let r = sets-eq w old at h in
+    cc
 
 -- ---- several, one after the other
 
@@ -79,18 +69,3 @@ stands_first {old} {new} {text} {n} l h =
     let p = l.puts (omega arith) in
     let k = p.next_place in
     (omega arith, ap (λ (i : ℕ). take i new) k ∙ ap (take (0 + length text)) p.bytes ∙ take_sets old 0 text (omega arith))
-
--- ---- a word, byte by byte
-
-pub put_more : (old w : List ℕ) (at i : ℕ) → i < length w → set (sets old at (take i w)) (at + i) (get_or w i 0) ≡ sets old at (take (i + 1) w)
-put_more old w at i h =
-    let l = length-take-le i w (omega arith) in
-    ap (λ (k : ℕ). set (sets old at (take i w)) k (get_or w i 0)) (let e : at + i ≡ at + length (take i w) = omega arith in e)
-    ∙ sets_append old at (take i w) (get_or w i 0 ∷ [])
-    ∙ ap (sets old at) (sym (take-suc w i 0 h) ∙ ap (λ (k : ℕ). take k w) (sym (add-one i)))
-
-pub put_long : (old w new : List ℕ) (at i : ℕ) → new ≡ sets old at (take i w) → length new ≡ length old
-put_long old w new at i e = ap length e ∙ length-sets old at (take i w)
-
-pub put_all : (old w new : List ℕ) (at i : ℕ) → i ≤ length w → length w ≤ i → new ≡ sets old at (take i w) → Puts old new at w (at + i)
-put_all old w new at i h k e = record { next_place = omega arith; bytes = e ∙ ap (sets old at) (take_all i w k); long = put_long old w new at i e }
