@@ -1,6 +1,6 @@
 -- A field as the last of the 8 bytes that a number has: what the steps of `load` and `store` say, put together. Assumes nothing.
 use denote.Floats.{passes}
-use mathlib.Core.Path.{◌≡◌, refl, ap, ap₂, ◌∙◌}
+use mathlib.Core.Path.{◌≡◌, refl, ap, ap₂, sym, ◌∙◌}
 use mathlib.Core.Bool.{true}
 use mathlib.Core.List.{List, [], ◌∷◌, ◌++◌, append-nil}
 use Prim.Native.Nat.{ℕ, zero, suc, ◌+◌, ◌-◌, ◌≤◌}
@@ -9,10 +9,11 @@ use native.Mathlib.Nat.{div-one}
 use mir.Syntax.{w64}
 use borrow.Rule.Slice.PartMut.{put_mid}
 use lib.ListN.{length, take, drop, replicate, length-append, length-drop, drop_of_length-le}
-use lib.Seq.{take_all, drop-drop, length-take-le}
+use lib.Seq.{take_all, length-take-le}
 use Rattle.std.specs.Int.{from_be_bytes, to_be_bytes}
 use Rattle.laws.specs.Big.{of_be, to_be}
 use Rattle.laws.proofs.BigLaws.{length-to_be}
+use Rattle.laws.proofs.LaidLaws.{as_put}
 use Rattle.laws.proofs.Ladders.{on}
 use Rattle.fields.specs.Field.{lies, field_at, with_field}
 use Rattle.fields.proofs.Lying.{inside}
@@ -68,5 +69,4 @@ module _ (s bs : List ℕ) (at w : ℕ) where
       let l = length-to_be w n in
       let g = e ∙ ap (λ (b : List ℕ). take (8 - (8 - w)) (drop (8 - w) b)) (a ∙ to_eight n) ∙ ap (take (8 - (8 - w))) (lowest 8 (8 - w) w n (omega arith)) in
       on _ _ _ t
-      (ap₂ (λ (k : ℕ) (m : List ℕ). take at s ++ (m ++ drop k (drop at s))) same_width (g ∙ take_all (8 - (8 - w)) (to_be w n) (omega arith))
-      ∙ ap (λ (r : List ℕ). take at s ++ (to_be w n ++ r)) (drop-drop w at s))
+      (ap₂ (λ (k : ℕ) (m : List ℕ). put_mid at k s m) same_width (g ∙ take_all (8 - (8 - w)) (to_be w n) (omega arith)) ∙ sym (as_put s at w (to_be w n)))

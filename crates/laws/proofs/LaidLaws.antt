@@ -15,7 +15,7 @@ module _ {A : Type 0} where
   laid s i w m = take i s ++ (m ++ drop (i + w) s)
 
   -- as the library writes it
-  as_put : (s : List A) (i w : ℕ) (m : List A) → laid s i w m ≡ put_mid i w s m
+  pub as_put : (s : List A) (i w : ℕ) (m : List A) → laid s i w m ≡ put_mid i w s m
   as_put s i w m = ap (λ (r : List A). take i s ++ (m ++ r)) (sym (drop-drop w i s))
 
   -- what stood there, laid over itself
