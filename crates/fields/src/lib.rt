@@ -1,4 +1,5 @@
 // Numbers in lent bytes, high byte first, of any width up to 8.
+// Place and width stay two arguments, and 0 stands for no field: what a public function asks and promises may not change.
 #![tactic(auto)]
 
 ghost use Rattle.std.specs.Prelude.{◌≡◌};

@@ -1,4 +1,5 @@
 // Text, put into lent bytes from a place on. What does not fit is not put, and its place comes back.
+// The bytes and the place stay two arguments: what a public function asks of its callers may not change.
 #![tactic(auto)]
 
 ghost use Rattle.std.specs.Prelude.{◌≡◌, [], ◌∷◌};
