@@ -14,7 +14,7 @@ pub const RETURN: u8 = 2;
 pub const ACK: u8 = 3;
 
 // A message: its kind, and its stamp of counter and sender.
-#[derive(Clone, Copy)]
+#[derive(Clone, Copy, PartialEq, Eq, Debug)]
 pub struct Message {
     pub kind: u8,
     pub sender: u8,

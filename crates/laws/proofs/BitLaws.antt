@@ -1,24 +1,24 @@
 -- Sets as bits: setting a bit by a sum, and the count of ones. Assumes nothing.
-use Prim.Native.Nat.{ℕ, zero, suc, ◌+◌, ◌*◌, ◌^◌, ◌%◌, ◌≤◌, ◌<◌}
+use Prim.Native.Nat.{ℕ, zero, suc, ◌+◌, ◌*◌, ◌^◌, ◌%◌, ◌<◌}
 use mathlib.Core.Path.{◌≡◌, refl, ap, ◌∙◌, sym}
 use mathlib.Core.Bool.{Bool, true, false, cond}
 use native.Mathlib.Omega.{arith}
 use native.Mathlib.Nat.{one-mul, zero-mul, pow-suc}
 use lib.Dec.{lit<}
-use lib.Pow.{shl_exact, pow_mono}
+use lib.Pow.{shl_exact}
+use lib.Bits.{bit_or}
+use Rattle.std.proofs.lemmas.Nat.{or_comm, or_shifted}
 use lib.Count.{ones, ones_cat}
 use Rattle.laws.specs.Below.{sum_to, one?, count_to, bits_to}
 use Rattle.laws.proofs.BelowLaws.{sum_to_cong, sum_to_zero}
 
--- the code's `1 << r` in w bits, and room for the sum
-pub bit_is : (w r : ℕ) → r < w → (1 * 2 ^ r) % 2 ^ w ≡ 2 ^ r
-bit_is w r h = shl_exact {a = 1} 1 r w (lit< tt) (omega arith) ∙ one-mul (2 ^ r)
-
-pub bit_room : (w r x : ℕ) → r < w → x < 2 ^ r → x + 2 ^ r < 2 ^ w
-bit_room w r x h k =
-    let p : 2 ^ suc r ≤ 2 ^ w = pow_mono {i = suc r} {j = w} h in
-    let q : 2 ^ suc r ≡ 2 ^ r * 2 = pow-suc 2 r in
-    omega arith
+-- one more bit, above all that are set
+pub bit_set : (w r x : ℕ) → r < w → x < 2 ^ r → bit_or x ((1 * 2 ^ r) % 2 ^ w) ≡ 2 ^ r + x
+bit_set w r x h k =
+    ap (bit_or x) (shl_exact {a = 1} 1 r w (lit< tt) (omega arith))
+    ∙ or_comm x (1 * 2 ^ r)
+    ∙ or_shifted 1 r x k
+    ∙ ap (λ (y : ℕ). y + x) (one-mul (2 ^ r))
 
 two : (n : ℕ) (b : Bool) (x : ℕ) → x < 2 ^ n → cond b (2 ^ n) 0 + x < 2 ^ suc n
 two n true x h = rw pow-suc (omega arith)

@@ -9,8 +9,9 @@ use lib.Dec.{T, T_not, eqb}
 use lib.ListN.{length, drop, length-append, length-map}
 use lib.Seq.{drop-append_seam}
 use lib.Ieee.Bits.{is_true, is_false}
+use Rattle.std.specs.List.{list_all}
 use Rattle.laws.specs.Below.{sum_to, one?}
-use Rattle.laws.specs.Lists.{In, keep, many, final, Begins}
+use Rattle.laws.specs.Lists.{In, keep, many, all, final, Begins}
 use Rattle.laws.proofs.Tests.{test, cond_both}
 use Rattle.laws.proofs.BelowLaws.{sum_to_cong, sum_to-add, sum_to_zero, one_le, one_below}
 
@@ -177,3 +178,9 @@ module _ {A : Type 0} (who : A → ℕ) (n : ℕ) (g : A → Bool) where
 -- the length of an array of structs, from the list of what it denotes
 pub length_mapped : (X Y : Type 0) (f : X → Y) (l : List X) (n : ℕ) → length (map f l) ≡ n → length l ≡ n
 length_mapped X Y f l n e = sym (length-map l f) ∙ e
+
+-- the test of each as the library's
+pub all_is : {A : Type 0} (f : A → Bool) (l : List A) → all f l ≡ list_all f l
+unfolding all
+all_is f [] = refl
+all_is f (x ∷ xs) = ap (λ (b : Bool). f x && b) (all_is f xs)

@@ -3,14 +3,21 @@ use mathlib.Core.Path.{◌≡◌, refl, ap, ap₂, ◌∙◌, sym, subst}
 use mathlib.Core.Logic.{inl, inr}
 use mathlib.Core.Bool.{Bool, true, false, cond, ◌&&◌}
 use mathlib.Core.List.{List, [], ◌∷◌}
-use Prim.Native.Nat.{ℕ, zero, suc, ◌+◌, ◌≤◌, ◌<◌, min}
+use Prim.Native.Nat.{ℕ, zero, suc, ◌+◌, ◌^◌, ◌≤◌, ◌<◌, min}
 use native.Mathlib.Omega.{arith}
 use native.Mathlib.Numerals.{add-one}
+use native.Mathlib.Nat.{zero-add}
+use Rattle.std.proofs.Math.Bool.{and_comm}
 use lib.Dec.{T, eqb}
 use lib.ListN.{length, get_or, take, drop}
 use lib.Seq.{slice, slice_empty, drop-cons, length-take-le, get_or-take}
+use Rattle.std.specs.List.{list_all, enumerate_from, sum}
+use Rattle.std.proofs.lemmas.List.Folds.{list_all_more}
+use Rattle.std.proofs.lemmas.List.FromFn.{get_or-enumerate_from, length-enumerate_from}
+use Rattle.std.proofs.lemmas.List.Sums.{sum_by_more}
+use Rattle.std.proofs.lemmas.List.{take_all}
 use Rattle.laws.specs.Lists.{In, keep, many, all}
-use Rattle.laws.specs.Below.{all_to, sum_to, least_to}
+use Rattle.laws.specs.Below.{all_to, sum_to, bits_to, least_to}
 use Rattle.laws.proofs.Tests.{and_l, and_r}
 
 module _ {A : Type 0} where
@@ -46,13 +53,10 @@ module _ {A : Type 0} (holds : ℕ → A) (step : ℕ → A → A) (more : (i : 
   turn : (i : ℕ) {x y : A} → x ≡ holds i → y ≡ step i x → y ≡ holds (i + 1)
   turn i e d = d ∙ ap (step i) e ∙ sym (more i) ∙ sym (ap holds (add-one i))
 
-pub all_to_turn : (f : ℕ → Bool) (i : ℕ) {x y : Bool} → x ≡ all_to i f → y ≡ (f i && x) → y ≡ all_to (i + 1) f
-unfolding all_to
-all_to_turn f = turn (λ n. all_to n f) (λ i x. f i && x) (λ i. refl)
-
-pub sum_to_turn : (f : ℕ → ℕ) (i : ℕ) {x y : ℕ} → x ≡ sum_to i f → y ≡ f i + x → y ≡ sum_to (i + 1) f
+pub bits_to_turn : (f : ℕ → Bool) (i : ℕ) (b : Bool) {x y : ℕ} → x ≡ bits_to i f → f i ≡ b → y ≡ cond b (2 ^ i) 0 + x → y ≡ bits_to (i + 1) f
 unfolding sum_to
-sum_to_turn f = turn (λ n. sum_to n f) (λ i x. f i + x) (λ i. refl)
+bits_to_turn f i b {x} e t d =
+    turn (λ n. bits_to n f) (λ i x. cond (f i) (2 ^ i) 0 + x) (λ i. refl) i e (d ∙ ap (λ (c : Bool). cond c (2 ^ i) 0 + x) (sym t))
 
 pub least_to_turn : (but d : ℕ) (f : ℕ → ℕ) (i : ℕ) {x y : ℕ} → x ≡ least_to i but d f → y ≡ cond (eqb i but) x (min (f i) x) → y ≡ least_to (i + 1) but d f
 unfolding least_to
@@ -83,3 +87,27 @@ pub all_to_cong : (n : ℕ) (f g : ℕ → Bool) → ((i : ℕ) → i < n → f 
 unfolding all_to
 all_to_cong zero f g h = refl
 all_to_cong (suc n) f g h = ap₂ ◌&&◌ (h n (omega arith)) (all_to_cong n f g (λ i l. h i (omega arith)))
+
+-- a test, or a sum, of what stands at the numbers below n
+all_to_list : {A : Type 0} (t : ℕ × A → Bool) (l : List A) (d : A) (n : ℕ) → n ≤ length l → all_to n (λ i. t (i, get_or l i d)) ≡ list_all t (take n (enumerate_from 0 l))
+unfolding all_to
+all_to_list t l d zero h = refl
+all_to_list t l d (suc n) h =
+    let e = enumerate_from 0 l in
+    let more = list_all_more t e n (0, d) (rw length-enumerate_from (omega arith)) in
+    let at = get_or-enumerate_from 0 l n (0, d) h ∙ ap (λ (k : ℕ). (k, get_or l n d)) (zero-add n) in
+    and_comm (t (n, get_or l n d)) _
+    ∙ ap₂ ◌&&◌ (all_to_list t l d n (omega arith)) (ap t (sym at))
+    ∙ sym (rw add-one at more)
+
+sum_to_list : (l : List ℕ) (n : ℕ) → n ≤ length l → sum_to n (λ i. get_or l i 0) ≡ sum (take n l)
+unfolding sum_to
+sum_to_list l zero h = refl
+sum_to_list l (suc n) h = let a = sum_to_list l n (omega arith) in let b = rw add-one at (sum_by_more (λ x. x) l n 0 h) in omega arith
+
+-- of a list of n, each with its number, and the sum of all
+pub all_each : {A : Type 0} (t : ℕ × A → Bool) (l : List A) (d : A) (n : ℕ) → length l ≡ n → all_to n (λ i. t (i, get_or l i d)) ≡ list_all t (enumerate_from 0 l)
+all_each t l d n e = all_to_list t l d n (omega arith) ∙ ap (list_all t) (take_all n (enumerate_from 0 l) (rw length-enumerate_from (omega arith)))
+
+pub sum_each : (l : List ℕ) (n : ℕ) → length l ≡ n → sum_to n (λ i. get_or l i 0) ≡ sum l
+sum_each l n e = sum_to_list l n (omega arith) ∙ ap sum (take_all n l (omega arith))

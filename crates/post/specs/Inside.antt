@@ -1,23 +1,31 @@
 -- What functions inside the crate promise each other, where a record says it best.
 use Rattle.post.specs.declared.{Post.{Post}, slots.{Seen.{Seen}, Gone.{Gone}}, arrivals.{Arrival.{Arrival}}}
-use Rattle.std.specs.Prelude.{Bool, true, ◌&&◌, List, ◌≡◌, ℕ, ◌+◌, ◌-◌, ◌^◌, ◌≤◌, ◌<◌, max, length, get_or, drop, replicate, set}
+use Rattle.std.specs.Prelude.{Bool, true, false, ◌&&◌, Option, None, Some, List, ◌≡◌, ℕ, ◌+◌, ◌-◌, ◌^◌, ◌≤◌, ◌<◌, max, length, get_or, drop, replicate, set}
 use Rattle.laws.specs.Lists.{all, many, put, rises}
 use Rattle.laws.specs.Ladder.{refusal}
 use Rattle.frame.specs.{declared.Message.{Message}, Message.{blank, is_take, is_return, stamp, by, own_take, own_return}, Frame.{fields_of}}
 use Rattle.post.specs.{Record.{waiting_of, remade}, Settle.{own_number}, Sound.{fair, is_blank, end_kind}, Calls.{receive_rows}}
 
--- a look over messages above the floor t, and over the slots after them
-pub record Looked (posts own : ℕ) (last : List ℕ) (t : ℕ) (ms unused : List Message) (seen : Seen) : Type 0 where
-  pub orderly : seen.orderly ≡ ((all (fair posts last) ms && rises stamp t ms) && all is_blank unused)
-  pub counts : seen.orderly ≡ true → (q : ℕ) → q < 16 → get_or seen.counts q 0 ≡ many (by q) ms
-  pub takes : seen.orderly ≡ true → seen.takes ≡ many (own_take own) ms
-  pub returns : seen.orderly ≡ true → seen.returns ≡ many (own_return own) ms
-  pub end : seen.orderly ≡ true → seen.end ≡ end_kind own 0 ms
+-- the numbers by which the code reads last counters and slots
+pub record InBounds (p : Post) : Type 0 where
+  pub posts : p.posts ≤ 16
+  pub waits : p.waits ≤ 62
 
--- a look over a record: whether its rules hold, and how many of each sender wait
-pub record Checked (p : Post) (rules : Bool) (seen : Seen) : Type 0 where
-  pub holds : seen.orderly ≡ rules
-  pub counts : seen.orderly ≡ true → (q : ℕ) → q < 16 → get_or seen.counts q 0 ≡ many (by q) (waiting_of p)
+-- what waits is fair and its stamps rise from t, and the other slots are zero
+unfoldable pub in_order : Post → ℕ → Bool
+in_order p t = (all (fair p.posts p.last) (waiting_of p) && rises stamp t (waiting_of p)) && all is_blank (drop p.waits p.slots)
+
+-- what a look finds of the messages ms: how many of each sender, the own takes and returns, and the kind of the last of them
+pub record Found (own : ℕ) (ms : List Message) (seen : Seen) : Type 0 where
+  pub counts : (q : ℕ) → q < 16 → get_or seen.counts q 0 ≡ many (by q) ms
+  pub takes : seen.takes ≡ many (own_take own) ms
+  pub returns : seen.returns ≡ many (own_return own) ms
+  pub end : seen.end ≡ end_kind own 0 ms
+
+-- a look over a record by some of its rules: none where they do not hold
+abbrev pub Looked : Post → Bool → Option Seen → Type 0
+Looked p rules None = rules ≡ false
+Looked p rules (Some seen) = (rules ≡ true) × Found p.own (waiting_of p) seen
 
 -- a look at a frame s, with n bytes lent: its refusal, and its message where it has none
 pub record Arrives (p : Post) (s : List ℕ) (n : ℕ) (a : Arrival) : Type 0 where

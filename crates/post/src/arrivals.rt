@@ -117,11 +117,9 @@ impl Post {
     pub(crate) fn arrival(self, frame: &[u8], len: usize) -> Arrival
         ensures { Arrives self frame.now len result }
     {
-        let seen = self.checked();
-        let sound = seen.orderly;
-        if !sound {
+        let Some(seen) = self.checked() else {
             return not_taken(1);
-        }
+        };
         if len < Self::FRAME {
             return not_taken(2);
         }

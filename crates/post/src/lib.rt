@@ -146,8 +146,7 @@ impl Post {
     pub fn sound(self) -> bool
         ensures { result ≡ sound self }
     {
-        let seen = self.checked();
-        seen.orderly
+        self.checked().is_some()
     }
 
     // Every answer is made here.
@@ -299,10 +298,9 @@ impl Post {
                 count: 0,
             };
         }
-        let last = self.last;
         let slots = self.slots;
         let t = slots::own_stamp(slots, self.waits as usize, self.own);
-        let set = lasts::late(last, self.posts as usize, self.own as usize, t);
+        let set = self.late(t);
         Missing {
             number: 0,
             set,

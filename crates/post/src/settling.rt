@@ -4,7 +4,7 @@ ghost use Rattle.post.specs.Settle.{phase_after, settle};
 ghost use Rattle.post.specs.Calls.{answer};
 ghost use Rattle.post.specs.Inside.{Countable};
 
-use crate::{Answer, Post, lasts, rules, slots};
+use crate::{Answer, Post, rules, slots};
 
 #[tactic(auto, unfolding(crate::specs::Settle::phase_after))]
 fn phase_after(phase: u8, order: u64, free: bool) -> u8
@@ -49,11 +49,10 @@ impl Post {
         requires { Countable self }
         ensures { result ≡ answer before (settle self) wrote }
     {
-        let last = self.last;
         let slots = self.slots;
         let own = self.own;
         let n = self.waits as usize;
-        let floor = lasts::floor(last, self.posts as usize, own as usize);
+        let floor = self.floor();
         let gone = slots::leaving(slots, n, floor, own, self.takes);
         let k = gone.count;
         let returns = self.returns + gone.returns;

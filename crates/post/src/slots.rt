@@ -1,124 +1,85 @@
 // Messages in the slots.
-ghost use Rattle.std.specs.Prelude.{◌≡◌, false, cond, ◌&&◌, ◌≤◌, ◌<◌, ◌+◌, ◌^◌, leb, eqb, take, drop};
+ghost use Rattle.std.specs.Prelude.{◌≡◌, cond, ◌&&◌, ◌≤◌, ◌<◌, ◌+◌, ◌^◌, eqb, take, length};
 ghost use Rattle.laws.specs.Lists.{leading};
 ghost use Rattle.laws.specs.Below.{one?};
 ghost use Rattle.frame.specs.Message.{is_take, counted, stamp, by};
-ghost use Rattle.post.specs.Sound.{is_blank};
+ghost use Rattle.post.specs.Sound.{fair, is_blank};
+ghost use Rattle.std.specs.List.{list_all};
 ghost use Rattle.post.specs.Calls.{own_stamp};
-ghost use Rattle.post.specs.Inside.{Looked, Left};
+ghost use Rattle.post.specs.Inside.{InBounds, in_order, Looked, Left};
 
-use crate::stamp;
+use crate::{Post, stamp};
 use frame::Message;
 
 // What a look over the slots finds of the messages that wait there.
 #[derive(Clone, Copy)]
 pub(crate) struct Seen {
-    // each is fair, the stamps rise above the floor, and the other slots are zero
-    pub orderly: bool,
     // how many of each sender
     pub counts: [u8; 16],
     // the own takes and returns, and the kind of the last of them
-    pub takes: u64,
-    pub returns: u64,
+    pub takes: u8,
+    pub returns: u8,
     pub end: u8,
 }
 
 pub(crate) fn is_counted(m: Message) -> bool
     ensures { result ≡ counted m }
 {
-    if m.kind == frame::TAKE {
-        return true;
-    }
-    m.kind == frame::RETURN
+    matches!(m.kind, frame::TAKE | frame::RETURN)
 }
 
-fn fits_last(m: Message, last: u32) -> bool
-    ensures { result ≡ (counted m && (leb 1 m.counter && leb m.counter last)) }
+// A take or return, of one of the posts with these last counters, and its counter from 1 to that post's last.
+#[tactic(auto, unfolding(crate::specs::Sound::fair))]
+fn is_fair(m: Message, last: &[u32]) -> bool
+    ensures { result ≡ fair (length last.now) last.now m }
 {
-    if !is_counted(m) {
-        return false;
-    }
-    if m.counter < 1 {
-        return false;
-    }
-    m.counter <= last
+    last.get(m.sender as usize)
+        .is_some_and(|c| is_counted(m) && (1..=*c).contains(&m.counter))
 }
 
-fn is_blank(m: Message) -> bool
-    ensures { result ≡ is_blank m }
+#[tactic(auto, unfolding(crate::specs::Sound::is_blank))]
+fn are_blank(slots: &[Message]) -> bool
+    ensures { result ≡ list_all is_blank slots.now }
 {
-    if m.kind != 0 {
-        return false;
-    }
-    if m.sender != 0 {
-        return false;
-    }
-    m.counter == 0
+    slots.iter().all(|m| *m == frame::BLANK)
 }
 
-pub(crate) fn disorderly() -> Seen
-    ensures { result.orderly ≡ false }
-{
-    Seen {
-        orderly: false,
-        counts: [0; 16],
-        takes: 0,
-        returns: 0,
-        end: 0,
-    }
-}
-
-pub(crate) fn look(
-    slots: [Message; 62],
-    n: usize,
-    last: [u32; 16],
-    posts: u8,
-    own: u8,
-    floor: u64,
-) -> Seen
-    requires { (n ≤ 62) × (posts ≤ 16) }
-    ensures { Looked posts own last floor (take n slots) (drop n slots) result }
-{
-    let mut counts = [0u8; 16];
-    let mut takes = 0u64;
-    let mut returns = 0u64;
-    let mut end = 0u8;
-    let mut top = floor;
-    let mut i = 0;
-    while i < n {
-        let m = slots[i];
-        if posts <= m.sender {
-            return disorderly();
+impl Post {
+    // None where a waiting message is not fair, the stamps do not rise from the floor, or a slot after them is not zero.
+    pub(crate) fn look(&self, floor: u64) -> Option<Seen>
+        requires { InBounds self.now }
+        ensures { Looked self.now (in_order self.now floor) result }
+    {
+        let (waiting, unused) = self.slots.split_at(self.waits as usize);
+        let last = &self.last[..self.posts as usize];
+        let mut counts = [0u8; 16];
+        let mut takes = 0;
+        let mut returns = 0;
+        let mut end = 0;
+        let mut top = floor;
+        for m in waiting {
+            let t = stamp(m.counter, m.sender);
+            if !is_fair(*m, last) || t <= top {
+                return None;
+            }
+            top = t;
+            counts[m.sender as usize] += 1;
+            if m.sender == self.own {
+                if m.kind == frame::TAKE {
+                    takes += 1;
+                } else {
+                    returns += 1;
+                }
+                end = m.kind;
+            }
         }
-        let q = m.sender as usize;
-        if !fits_last(m, last[q]) {
-            return disorderly();
-        }
-        let t = stamp(m.counter, m.sender);
-        if t <= top {
-            return disorderly();
-        }
-        top = t;
-        counts[q] += 1;
-        if m.sender == own {
-            takes = one_kind(takes, frame::TAKE, m);
-            returns = one_kind(returns, frame::RETURN, m);
-            end = m.kind;
-        }
-        i += 1;
-    }
-    while i < 62 {
-        if !is_blank(slots[i]) {
-            return disorderly();
-        }
-        i += 1;
-    }
-    Seen {
-        orderly: true,
-        counts,
-        takes,
-        returns,
-        end,
+        let seen = Seen {
+            counts,
+            takes,
+            returns,
+            end,
+        };
+        are_blank(unused).then_some(seen)
     }
 }
 

@@ -1,16 +1,17 @@
 // Document 01's rules on a record, in three groups.
-ghost use Rattle.std.specs.Prelude.{◌≡◌, true};
+ghost use Rattle.std.specs.Prelude.{◌≡◌};
 ghost use Rattle.laws.specs.Ladder.{every};
 ghost use Rattle.post.specs.Sound.{number_rules, slot_rules, count_rules, sound};
-ghost use Rattle.post.specs.Inside.{Checked};
+ghost use Rattle.post.specs.Inside.{InBounds, Looked};
 
 use crate::slots::Seen;
-use crate::{Post, lasts, rules, slots};
+use crate::{Post, lasts, rules};
 use calls::Start;
 
 impl Post {
-    fn numbers_sound(self) -> bool
-        ensures { result ≡ every (number_rules self) }
+    #[tactic(auto, unfolding(crate::specs::Sound::number_rules))]
+    fn numbers_sound(&self) -> bool
+        ensures { result ≡ every (number_rules self.now) }
     {
         let start = Start {
             posts: self.posts,
@@ -18,70 +19,42 @@ impl Post {
             feeder: self.feeder,
             places: self.places,
         };
-        if !rules::in_range(start) {
-            return false;
-        }
-        if Self::HOLDING < self.phase {
-            return false;
-        }
-        if 62 < self.waits {
-            return false;
-        }
-        let last = self.last;
-        lasts::fit(last, self.posts, self.clock)
+        rules::in_range(start)
+            && self.phase <= Self::HOLDING
+            && self.waits <= 62
+            && lasts::fit(&self.last, self.posts, self.clock)
     }
 
-    fn slots_checked(self) -> Seen
-        requires { every (number_rules self) ≡ true }
-        ensures { Checked self (every (slot_rules self)) result }
+    fn slots_checked(&self) -> Option<Seen>
+        requires { InBounds self.now }
+        ensures { Looked self.now (every (slot_rules self.now)) result }
     {
-        let last = self.last;
-        let slots = self.slots;
-        let n = self.waits as usize;
-        let floor = lasts::floor(last, self.posts as usize, self.own as usize);
-        let seen = slots::look(slots, n, last, self.posts, self.own, floor);
-        if !seen.orderly {
-            return slots::disorderly();
-        }
-        if rules::is_crowd(self.posts, self.waits) {
-            return slots::disorderly();
-        }
-        let counts = seen.counts;
-        if !lasts::few(counts, self.posts, self.own) {
-            return slots::disorderly();
-        }
-        if !rules::own_fits(self.phase, seen.takes, seen.returns, seen.end) {
-            return slots::disorderly();
-        }
-        seen
+        let seen = self.look(self.floor())?;
+        let fits = (self.posts != 1 || self.waits == 0)
+            && lasts::few(&seen.counts[..self.posts as usize], self.own)
+            && rules::own_fits(self.phase, seen.takes, seen.returns, seen.end);
+        fits.then_some(seen)
     }
 
-    fn counts_sound(self) -> bool
-        ensures { result ≡ every (count_rules self) }
+    #[tactic(auto, unfolding(crate::specs::Sound::count_rules, crate::specs::Sound::sum_fits, crate::specs::Settle::free), using(crate::proofs::Works::Rules::sum_is))]
+    fn counts_sound(&self) -> bool
+        ensures { result ≡ every (count_rules self.now) }
     {
-        let last = self.last;
-        let most = lasts::sum(last);
-        if !rules::sum_fits(self.takes, self.returns, self.waits, most) {
-            return false;
-        }
+        let most = lasts::sum(&self.last);
         let free = rules::is_free(self.order, self.places, self.returns);
-        rules::order_fits(self.phase, self.order, self.takes, free)
+        rules::sum_fits(self.takes, self.returns, self.waits, most)
+            && rules::order_fits(self.phase, self.order, self.takes, free)
     }
 
-    // Whether document 01's rules hold, and how many of each sender wait.
-    pub(crate) fn checked(self) -> Seen
-        ensures { Checked self (sound self) result }
+    #[tactic(auto, unfolding(crate::specs::Sound::sound))]
+    // None where one of document 01's rules does not hold, and else what waits.
+    pub(crate) fn checked(&self) -> Option<Seen>
+        ensures { Looked self.now (sound self.now) result }
     {
         if !self.numbers_sound() {
-            return slots::disorderly();
+            return None;
         }
-        let seen = self.slots_checked();
-        if !seen.orderly {
-            return slots::disorderly();
-        }
-        if !self.counts_sound() {
-            return slots::disorderly();
-        }
-        seen
+        let seen = self.slots_checked()?;
+        self.counts_sound().then_some(seen)
     }
 }

@@ -1,29 +1,48 @@
--- One turn of the look over the waiting messages, and of that over the slots after them. Assumes nothing.
+-- One turn of the look over the waiting messages, and what it found after the last. Assumes nothing.
 use mathlib.Core.Path.{◌≡◌, refl, ap, ◌∙◌, sym, subst}
-use mathlib.Core.Bool.{Bool, true, false, cond, ◌&&◌, and-false, false≢true}
+use mathlib.Core.Bool.{Bool, true, false, cond, ◌&&◌, and-false}
 use mathlib.Core.List.{List, [], ◌∷◌}
 use Prim.Native.Nat.{ℕ, ◌+◌, ◌≤◌, ◌<◌}
 use native.Mathlib.Omega.{arith}
 use native.Mathlib.Nat.{zero-add}
-use borrow.Author.Tests.{lt-ltb, le-ltb}
-use lib.Dec.{leb, eqb, eqb→eq}
-use lib.ListN.{length, get_or, drop, set, replicate, length-set, get_or-replicate, drop_of_length-le}
-use lib.Seq.{get_or-set_same, get_or-set_other}
+use borrow.Author.Tests.{lt-ltb, le-ltb, ne_eqb}
+use lib.Dec.{T, leb, ltb, eqb, eqb→eq, ltb→lt, nltb→le}
+use lib.ListN.{length, get_or, take, drop, set, replicate, length-set, get_or-replicate, drop_of_length-le}
+use lib.Seq.{get_or-set_same, get_or-set_other, get_or-take, length-take-le}
+use Rattle.std.specs.List.{list_all}
+use Rattle.std.specs.Bool.{then_some}
 use Rattle.laws.specs.Lists.{keep, all, many, rises}
 use Rattle.laws.specs.Below.{one?}
 use Rattle.laws.proofs.Tests.{test, neqb→ne}
 use Rattle.laws.proofs.BelowLaws.{one_yes, one_eqb}
-use Rattle.laws.proofs.ListLaws.{many_cons}
-use Rattle.laws.proofs.ScanLaws.{next_drop, many-length}
+use Rattle.laws.proofs.ListLaws.{many_cons, all_is}
+use Rattle.laws.proofs.ScanLaws.{many-length, next_drop}
+use Rattle.laws.proofs.Ladders.{one_off}
 use Rattle.frame.specs.declared.Message.{Message}
-use Rattle.frame.specs.Message.{blank, counted, is_take, is_return, stamp, by}
+use Rattle.frame.specs.Message.{blank, take_kind, return_kind, counted, is_take, is_return, stamp, by}
 use Rattle.post.specs.declared.slots.Seen.{Seen}
-use Rattle.post.specs.Inside.{Looked}
+use Rattle.post.specs.declared.Post.{Post}
+use Rattle.post.specs.Record.{waiting_of}
+use Rattle.post.specs.Inside.{Found, in_order, Looked}
 use Rattle.post.specs.Sound.{fair, is_blank, end_kind}
 
--- what a message has that `fits_last` finds
-abbrev pub fits_last : List ℕ → Message → Bool
-fits_last last m = counted m && (leb 1 m.counter && leb m.counter (get_or last m.sender 0))
+-- among the last counters of the posts alone
+pub fair_first : (posts : ℕ) (last : List ℕ) (m : Message) → posts ≤ length last → fair (length (take posts last)) (take posts last) m ≡ fair posts last m
+unfolding fair
+fair_first posts last m h =
+    rw length-take-le (
+    test (ltb m.sender posts)
+    (λ y. ap (λ (c : ℕ). ltb m.sender posts && (counted m && (leb 1 m.counter && leb m.counter c))) (get_or-take posts last m.sender 0 (ltb→lt m.sender posts y)))
+    (λ n. rw (le-ltb m.sender posts (nltb→le m.sender posts n))))
+
+-- a counted message that is no take is a return
+pub else_return : (m : Message) → T (counted m) → (m.kind ≡ take_kind → ⊥) → m.kind ≡ return_kind
+else_return m t d = eqb→eq m.kind return_kind (rw (ne_eqb m.kind take_kind d) at t)
+
+-- a fault among those that wait
+pub broken : (p : Post) (f : ℕ) {ms : List Message} → ms ≡ waiting_of p → (all (fair p.posts p.last) ms && rises stamp f ms) ≡ false → in_order p f ≡ false
+unfolding in_order
+broken p f e n = one_off _ _ (rw e at n)
 
 module _ (posts own : ℕ) (last : List ℕ) (t : ℕ) (ms : List Message) where
   -- what has been found, with the rest still to be looked at
@@ -45,18 +64,22 @@ module _ (posts own : ℕ) (last : List ℕ) (t : ℕ) (ms : List Message) where
     sixteen = refl;
   }
 
+  -- one that is still to be looked at, and those after it
+  pub here : {i top : ℕ} {counts : List ℕ} {tk rt e : ℕ} → i < length ms → Going (drop i ms) top counts tk rt e → Going (get_or ms i blank ∷ drop (i + 1) ms) top counts tk rt e
+  here {i} {top} {counts} {tk} {rt} {e} h g = subst (λ (r : List Message). Going r top counts tk rt e) (next_drop ms i blank h) g
+
+  -- none is left
+  pub none_left : {i top : ℕ} {counts : List ℕ} {tk rt e : ℕ} → length ms ≤ i → Going (drop i ms) top counts tk rt e → Going [] top counts tk rt e
+  none_left {i} {top} {counts} {tk} {rt} {e} h g = subst (λ (r : List Message). Going r top counts tk rt e) (drop_of_length-le ms {i = i} h) g
+
   module _ {m : Message} {rest : List Message} {top : ℕ} {counts : List ℕ} {tk rt e : ℕ} (g : Going (m ∷ rest) top counts tk rt e) where
-    pub foreign : posts ≤ m.sender → false ≡ (all (fair posts last) ms && rises stamp t ms)
-    unfolding all fair
-    foreign h = sym (rw (le-ltb m.sender posts h)) ∙ g.orderly
+    pub unfair : fair posts last m ≡ false → (all (fair posts last) ms && rises stamp t ms) ≡ false
+    unfolding all
+    unfair f = sym g.orderly ∙ rw f
 
-    pub unfit : m.sender < posts → fits_last last m ≡ false → false ≡ (all (fair posts last) ms && rises stamp t ms)
-    unfolding all fair
-    unfit h f = sym (rw (lt-ltb m.sender posts h, f)) ∙ g.orderly
-
-    pub low : stamp m ≤ top → false ≡ (all (fair posts last) ms && rises stamp t ms)
+    pub low : stamp m ≤ top → (all (fair posts last) ms && rises stamp t ms) ≡ false
     unfolding rises
-    low h = sym (rw (le-ltb top (stamp m) h) (and-false (all (fair posts last) (m ∷ rest)))) ∙ g.orderly
+    low h = sym g.orderly ∙ rw (le-ltb top (stamp m) h) (and-false (all (fair posts last) (m ∷ rest)))
 
     -- nothing that is counted overruns a byte
     pub takes_small : length ms ≤ 62 → tk < 255
@@ -68,14 +91,14 @@ module _ (posts own : ℕ) (last : List ℕ) (t : ℕ) (ms : List Message) where
     pub each_small : length ms ≤ 62 → (q : ℕ) → q < 16 → get_or counts q 0 < 255
     each_small h q l = let a = g.each q l in let b = many-length (by q) ms in omega arith
 
-    pub turned : m.sender < posts → posts ≤ 16 → fits_last last m ≡ true → {top' tk' rt' e' : ℕ} → top' ≡ stamp m → top < top'
+    pub turned : fair posts last m ≡ true → m.sender < 16 → {top' tk' rt' e' : ℕ} → top' ≡ stamp m → top < top'
         → tk' ≡ tk + one? (by own m && is_take m) → rt' ≡ rt + one? (by own m && is_return m) → e' ≡ cond (by own m) m.kind e
         → Going rest top' (set counts m.sender (get_or counts m.sender 0 + 1)) tk' rt' e'
-    unfolding all rises fair end_kind
-    turned h h16 f {top'} {tk'} {rt'} {e'} p l pt pr pe =
+    unfolding all rises end_kind
+    turned f h {top'} {tk'} {rt'} {e'} p l pt pr pe =
         let s = m.sender in
         record {
-          orderly = ap (λ (x : ℕ). all (fair posts last) rest && rises stamp x rest) p ∙ sym (rw (lt-ltb s posts h, f, lt-ltb top (stamp m) (omega arith))) ∙ g.orderly;
+          orderly = ap (λ (x : ℕ). all (fair posts last) rest && rises stamp x rest) p ∙ sym (rw (f, lt-ltb top (stamp m) (omega arith))) ∙ g.orderly;
           each = λ q lq. test (eqb s q)
               (λ y. let d = eqb→eq s q y in
               let a = g.each q lq in
@@ -95,39 +118,27 @@ module _ (posts own : ℕ) (last : List ℕ) (t : ℕ) (ms : List Message) where
           sixteen = length-set counts s _ ∙ g.sixteen;
         }
 
-  module _ {unused : List Message} where
-    pub looked : {top : ℕ} {counts : List ℕ} {tk rt e : ℕ} → Going [] top counts tk rt e → all is_blank unused ≡ true
-        → Looked posts own last t ms unused (record { orderly = true; counts = counts; takes = tk; returns = rt; end = e })
-    unfolding all rises keep end_kind
-    looked {top} {counts} {tk} {rt} {e} g b = record {
-      orderly = λ i. g.orderly i && sym b i;
-      counts = λ z q l. let a = g.each q l in omega arith;
-      takes = λ z. let a = g.takes in omega arith;
-      returns = λ z. let a = g.returns in omega arith;
-      end = λ z. g.end;
-    }
+  -- after the last of them
+  pub right : {top : ℕ} {counts : List ℕ} {tk rt e : ℕ} → Going [] top counts tk rt e → (all (fair posts last) ms && rises stamp t ms) ≡ true
+  unfolding all rises
+  right g = sym g.orderly
 
-    -- one fault is enough
-    unlooked : (seen : Seen) → seen.orderly ≡ false → false ≡ ((all (fair posts last) ms && rises stamp t ms) && all is_blank unused) → Looked posts own last t ms unused seen
-    unlooked seen n e =
-        let no : seen.orderly ≡ true → ⊥ = λ y. false≢true (sym n ∙ y) in
-        record { orderly = n ∙ e; counts = λ y. absurd (no y); takes = λ y. absurd (no y); returns = λ y. absurd (no y); end = λ y. absurd (no y) }
+  pub found : {top : ℕ} {counts : List ℕ} {tk rt e : ℕ} → Going [] top counts tk rt e → Found own ms (record { counts = counts; takes = tk; returns = rt; end = e })
+  unfolding keep end_kind
+  found g = record {
+    counts = λ q l. let a = g.each q l in omega arith;
+    takes = let a = g.takes in omega arith;
+    returns = let a = g.returns in omega arith;
+    end = g.end;
+  }
 
-    pub wrong : (seen : Seen) → seen.orderly ≡ false → false ≡ (all (fair posts last) ms && rises stamp t ms) → Looked posts own last t ms unused seen
-    wrong seen n e = unlooked seen n (ap (λ (x : Bool). x && all is_blank unused) e)
+-- what is found is handed on where the rules hold
+pub seen_if : (p : Post) (seen : Seen) {rules : Bool} (holds : Bool) → rules ≡ holds → Found p.own (waiting_of p) seen → Looked p rules (then_some holds seen)
+seen_if p seen true e found = (e, found)
+seen_if p seen false e found = e
 
-    pub used : (seen : Seen) → seen.orderly ≡ false → all is_blank unused ≡ false → Looked posts own last t ms unused seen
-    used seen n e = unlooked seen n (sym (rw e (and-false (all (fair posts last) ms && rises stamp t ms))))
-
-module _ (l : List Message) (i : ℕ) (h : i < length l) where
-  pub full_slot : is_blank (get_or l i blank) ≡ false → all is_blank (drop i l) ≡ false
-  unfolding all
-  full_slot e = ap (all is_blank) (next_drop l i blank h) ∙ rw e
-
-  pub blank_slot : is_blank (get_or l i blank) ≡ true → all is_blank (drop i l) ≡ all is_blank (drop (i + 1) l)
-  unfolding all
-  blank_slot e = ap (all is_blank) (next_drop l i blank h) ∙ rw e
-
-pub no_slot : (l : List Message) (i : ℕ) → length l ≤ i → all is_blank (drop i l) ≡ true
-unfolding all
-no_slot l i h = ap (all is_blank) (drop_of_length-le l {i = i} h)
+-- the look's answer, from what it found of those that wait and of the slots after them
+pub looked : (p : Post) (f : ℕ) {ms unused : List Message} {blanks : Bool} → ms ≡ waiting_of p → unused ≡ drop p.waits p.slots → blanks ≡ list_all is_blank unused
+    → (seen : Seen) → (all (fair p.posts p.last) ms && rises stamp f ms) ≡ true → Found p.own ms seen → Looked p (in_order p f) (then_some blanks seen)
+unfolding in_order
+looked p f {blanks = blanks} m u b seen r found = seen_if p seen blanks (rw (← m, r, ← u, all_is) (sym b)) (rw m at found)

@@ -1,18 +1,17 @@
 -- The record that the code makes, as the definitions make it anew. Assumes nothing.
 use mathlib.Core.Path.{◌≡◌, ap, ap₂, ◌∙◌, sym}
 use mathlib.Core.List.{List, ◌++◌, append_assoc}
-use Prim.Native.Nat.{ℕ, ◌+◌, ◌-◌, ◌≤◌, ◌<◌, ◌^◌}
+use Prim.Native.Nat.{ℕ, ◌+◌, ◌-◌, ◌≤◌, ◌<◌}
 use native.Mathlib.Omega.{arith}
 use mathlib.Core.Bool.{Bool, cond}
 use lib.Dec.{leb, eqb}
-use lib.ListN.{length, get_or, drop, replicate, length-drop, take, take-append-drop, replicate-append-replicate}
+use lib.ListN.{length, drop, replicate, length-drop, take, take-append-drop, replicate-append-replicate}
 use lib.Seq.{drop-drop, slice, length-slice}
-use Rattle.laws.specs.Below.{least_to}
 use Rattle.laws.specs.Lists.{many, put, leading}
 use Rattle.laws.proofs.CountLaws.{length-put}
 use Rattle.laws.proofs.ShiftLaws.{Moved, all_moved, drop-replicate}
 use Rattle.frame.specs.declared.Message.{Message}
-use Rattle.frame.specs.Message.{blank, is_take, is_return, stamp_of, stamp}
+use Rattle.frame.specs.Message.{blank, is_take, is_return, stamp}
 use Rattle.post.specs.declared.Post.{Post}
 use Rattle.post.specs.declared.slots.Gone.{Gone}
 use Rattle.post.specs.Record.{start_of, waiting_of, floor, in_slots, made, remade}
@@ -87,14 +86,14 @@ moved_slots l k n h b e z v q =
 
 -- what is settled has left
 pub settles_as : (p : Post) (f : ℕ) (g : Gone) (slots : List Message) (phase order : ℕ) (can : Bool) → length (waiting_of p) ≡ p.waits
-    → f ≡ least_to p.posts p.own (2 ^ 40) (λ q. stamp_of (get_or p.last q 0) q)
+    → f ≡ floor p
     → Left p.own p.takes (leading stamp f (waiting_of p)) g
     → slots ≡ in_slots (drop g.count (waiting_of p))
     → order ≡ cond (eqb p.phase 1) g.order p.order
     → can ≡ leb order (p.places + (p.returns + g.returns))
     → phase ≡ phase_after p.phase order can
     → made (start_of p) p.clock p.last (p.waits - g.count) slots g.takes (p.returns + g.returns) phase order ≡ settle p
-unfolding settle tallied free floor order_after
+unfolding settle tallied free order_after
 settles_as p f g slots phase order can len pf l ps po pc pp =
     let ws = waiting_of p in
     let out : leading stamp f ws ≡ gone p = ap (λ (x : ℕ). leading stamp x ws) pf in
