@@ -30,18 +30,18 @@ pub(crate) fn is_counted(m: Message) -> bool
 
 // A take or return, of one of the posts with these last counters, and its counter from 1 to that post's last.
 #[tactic(auto, unfolding(crate::specs::Sound::fair))]
-fn is_fair(m: Message, last: &[u32]) -> bool
-    ensures { result ≡ fair (length last.now) last.now m }
+fn is_fair(m: &Message, last: &[u32]) -> bool
+    ensures { result ≡ fair (length last.now) last.now m.now }
 {
     last.get(m.sender as usize)
-        .is_some_and(|c| is_counted(m) && (1..=*c).contains(&m.counter))
+        .is_some_and(|c| is_counted(*m) && (1..=*c).contains(&m.counter))
 }
 
 #[tactic(auto, unfolding(crate::specs::Sound::is_blank))]
 fn are_blank(slots: &[Message]) -> bool
     ensures { result ≡ list_all is_blank slots.now }
 {
-    slots.iter().all(|m| *m == frame::BLANK)
+    slots.iter().all(|&m| m == frame::BLANK)
 }
 
 impl Post {
@@ -59,7 +59,7 @@ impl Post {
         let mut top = floor;
         for m in waiting {
             let t = stamp(m.counter, m.sender);
-            if !is_fair(*m, last) || t <= top {
+            if !is_fair(m, last) || t <= top {
                 return None;
             }
             top = t;

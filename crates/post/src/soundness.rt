@@ -46,15 +46,14 @@ impl Post {
             && rules::order_fits(self.phase, self.order, self.takes, free)
     }
 
-    #[tactic(auto, unfolding(crate::specs::Sound::sound))]
     // None where one of document 01's rules does not hold, and else what waits.
+    #[tactic(auto, unfolding(crate::specs::Sound::sound))]
     pub(crate) fn checked(&self) -> Option<Seen>
         ensures { Looked self.now (sound self.now) result }
     {
-        if !self.numbers_sound() {
+        if !self.numbers_sound() || !self.counts_sound() {
             return None;
         }
-        let seen = self.slots_checked()?;
-        self.counts_sound().then_some(seen)
+        self.slots_checked()
     }
 }
