@@ -11,9 +11,7 @@ use crate::{Post, stamp};
 pub(crate) fn fit(last: &[u32; 16], posts: u8, clock: u32) -> bool
     ensures { result ≡ list_all (λ x. (ltb x.0 posts || eqb x.1 0) && leb x.1 clock) (enumerate_from 0 last.now) }
 {
-    last.iter()
-        .enumerate()
-        .all(|(q, c)| (q < posts as usize || *c == 0) && *c <= clock)
+    last.iter().enumerate().all(|(q, c)| (q < usize::from(posts) || *c == 0) && *c <= clock)
 }
 
 pub(crate) fn sum(last: &[u32]) -> u64
@@ -30,7 +28,7 @@ pub(crate) fn few(counts: &[u8], own: u8) -> bool
     counts
         .iter()
         .enumerate()
-        .all(|(q, n)| q == own as usize || *n <= Post::WAITING)
+        .all(|(q, n)| q == usize::from(own) || *n <= Post::WAITING)
 }
 
 impl Post {
@@ -39,7 +37,7 @@ impl Post {
         requires { self.now.posts ≤ 16 }
         ensures { result ≡ floor self.now }
     {
-        let mut least: u64 = 0x100_0000_0000;
+        let mut least = 1 << 40;
         for q in 0..self.posts {
             if q != self.own {
                 least = stamp(self.last[q as usize], q).min(least);

@@ -33,10 +33,11 @@ pub(crate) fn is_counted(m: Message) -> bool
 fn is_fair(m: &Message, last: &[u32]) -> bool
     ensures { result ≡ fair (length last.now) last.now m.now }
 {
-    last.get(m.sender as usize)
+    last.get(usize::from(m.sender))
         .is_some_and(|c| is_counted(*m) && (1..=*c).contains(&m.counter))
 }
 
+// Each of the slots is zero.
 #[tactic(auto, unfolding(crate::specs::Sound::is_blank))]
 fn are_blank(slots: &[Message]) -> bool
     ensures { result ≡ list_all is_blank slots.now }
@@ -52,10 +53,12 @@ impl Post {
     {
         let (waiting, unused) = self.slots.split_at(self.waits as usize);
         let last = &self.last[..self.posts as usize];
-        let mut counts = [0u8; 16];
-        let mut takes = 0;
-        let mut returns = 0;
-        let mut end = 0;
+        let mut seen = Seen {
+            counts: [0; 16],
+            takes: 0,
+            returns: 0,
+            end: 0,
+        };
         let mut top = floor;
         for m in waiting {
             let t = stamp(m.counter, m.sender);
@@ -63,22 +66,16 @@ impl Post {
                 return None;
             }
             top = t;
-            counts[m.sender as usize] += 1;
+            seen.counts[m.sender as usize] += 1;
             if m.sender == self.own {
                 if m.kind == frame::TAKE {
-                    takes += 1;
+                    seen.takes += 1;
                 } else {
-                    returns += 1;
+                    seen.returns += 1;
                 }
-                end = m.kind;
+                seen.end = m.kind;
             }
         }
-        let seen = Seen {
-            counts,
-            takes,
-            returns,
-            end,
-        };
         are_blank(unused).then_some(seen)
     }
 }

@@ -46,15 +46,15 @@ broken p f e n = one_off _ _ (rw e at n)
 
 module _ (posts own : ℕ) (last : List ℕ) (t : ℕ) (ms : List Message) where
   -- what has been found, with the rest still to be looked at
-  pub record Going (rest : List Message) (top : ℕ) (counts : List ℕ) (tk rt e : ℕ) : Type 0 where
+  pub record Going (rest : List Message) (top : ℕ) (seen : Seen) : Type 0 where
     pub orderly : (all (fair posts last) rest && rises stamp top rest) ≡ (all (fair posts last) ms && rises stamp t ms)
-    pub each : (q : ℕ) → q < 16 → get_or counts q 0 + many (by q) rest ≡ many (by q) ms
-    pub takes : tk + many (λ m. by own m && is_take m) rest ≡ many (λ m. by own m && is_take m) ms
-    pub returns : rt + many (λ m. by own m && is_return m) rest ≡ many (λ m. by own m && is_return m) ms
-    pub end : end_kind own e rest ≡ end_kind own 0 ms
-    pub sixteen : length counts ≡ 16
+    pub each : (q : ℕ) → q < 16 → get_or seen.counts q 0 + many (by q) rest ≡ many (by q) ms
+    pub takes : seen.takes + many (λ m. by own m && is_take m) rest ≡ many (λ m. by own m && is_take m) ms
+    pub returns : seen.returns + many (λ m. by own m && is_return m) rest ≡ many (λ m. by own m && is_return m) ms
+    pub end : end_kind own seen.end rest ≡ end_kind own 0 ms
+    pub sixteen : length seen.counts ≡ 16
 
-  pub begun : Going ms t (replicate 16 0) 0 0 0
+  pub begun : Going ms t (record { counts = replicate 16 0; takes = 0; returns = 0; end = 0 })
   begun = record {
     orderly = refl;
     each = λ q l. ap (λ (x : ℕ). x + many (by q) ms) (get_or-replicate 16 q 0 0 l) ∙ zero-add (many (by q) ms);
@@ -65,14 +65,14 @@ module _ (posts own : ℕ) (last : List ℕ) (t : ℕ) (ms : List Message) where
   }
 
   -- one that is still to be looked at, and those after it
-  pub here : {i top : ℕ} {counts : List ℕ} {tk rt e : ℕ} → i < length ms → Going (drop i ms) top counts tk rt e → Going (get_or ms i blank ∷ drop (i + 1) ms) top counts tk rt e
-  here {i} {top} {counts} {tk} {rt} {e} h g = subst (λ (r : List Message). Going r top counts tk rt e) (next_drop ms i blank h) g
+  pub here : {i top : ℕ} {seen : Seen} → i < length ms → Going (drop i ms) top seen → Going (get_or ms i blank ∷ drop (i + 1) ms) top seen
+  here {i} {top} {seen} h g = subst (λ (r : List Message). Going r top seen) (next_drop ms i blank h) g
 
   -- none is left
-  pub none_left : {i top : ℕ} {counts : List ℕ} {tk rt e : ℕ} → length ms ≤ i → Going (drop i ms) top counts tk rt e → Going [] top counts tk rt e
-  none_left {i} {top} {counts} {tk} {rt} {e} h g = subst (λ (r : List Message). Going r top counts tk rt e) (drop_of_length-le ms {i = i} h) g
+  pub none_left : {i top : ℕ} {seen : Seen} → length ms ≤ i → Going (drop i ms) top seen → Going [] top seen
+  none_left {i} {top} {seen} h g = subst (λ (r : List Message). Going r top seen) (drop_of_length-le ms {i = i} h) g
 
-  module _ {m : Message} {rest : List Message} {top : ℕ} {counts : List ℕ} {tk rt e : ℕ} (g : Going (m ∷ rest) top counts tk rt e) where
+  module _ {m : Message} {rest : List Message} {top : ℕ} {seen : Seen} (g : Going (m ∷ rest) top seen) where
     pub unfair : fair posts last m ≡ false → (all (fair posts last) ms && rises stamp t ms) ≡ false
     unfolding all
     unfair f = sym g.orderly ∙ rw f
@@ -82,21 +82,23 @@ module _ (posts own : ℕ) (last : List ℕ) (t : ℕ) (ms : List Message) where
     low h = sym g.orderly ∙ rw (le-ltb top (stamp m) h) (and-false (all (fair posts last) (m ∷ rest)))
 
     -- nothing that is counted overruns a byte
-    pub takes_small : length ms ≤ 62 → tk < 255
+    pub takes_small : length ms ≤ 62 → seen.takes < 255
     takes_small h = let a = g.takes in let b = many-length (λ x. by own x && is_take x) ms in omega arith
 
-    pub returns_small : length ms ≤ 62 → rt < 255
+    pub returns_small : length ms ≤ 62 → seen.returns < 255
     returns_small h = let a = g.returns in let b = many-length (λ x. by own x && is_return x) ms in omega arith
 
-    pub each_small : length ms ≤ 62 → (q : ℕ) → q < 16 → get_or counts q 0 < 255
+    pub each_small : length ms ≤ 62 → (q : ℕ) → q < 16 → get_or seen.counts q 0 < 255
     each_small h q l = let a = g.each q l in let b = many-length (by q) ms in omega arith
 
-    pub turned : fair posts last m ≡ true → m.sender < 16 → {top' tk' rt' e' : ℕ} → top' ≡ stamp m → top < top'
-        → tk' ≡ tk + one? (by own m && is_take m) → rt' ≡ rt + one? (by own m && is_return m) → e' ≡ cond (by own m) m.kind e
-        → Going rest top' (set counts m.sender (get_or counts m.sender 0 + 1)) tk' rt' e'
+    pub turned : fair posts last m ≡ true → m.sender < 16 → {top' : ℕ} → top' ≡ stamp m → top < top' → (seen' : Seen)
+        → seen'.counts ≡ set seen.counts m.sender (get_or seen.counts m.sender 0 + 1)
+        → seen'.takes ≡ seen.takes + one? (by own m && is_take m) → seen'.returns ≡ seen.returns + one? (by own m && is_return m) → seen'.end ≡ cond (by own m) m.kind seen.end
+        → Going rest top' seen'
     unfolding all rises end_kind
-    turned f h {top'} {tk'} {rt'} {e'} p l pt pr pe =
+    turned f h p l seen' pc pt pr pe =
         let s = m.sender in
+        let counts = seen.counts in
         record {
           orderly = ap (λ (x : ℕ). all (fair posts last) rest && rises stamp x rest) p ∙ sym (rw (f, lt-ltb top (stamp m) (omega arith))) ∙ g.orderly;
           each = λ q lq. test (eqb s q)
@@ -106,24 +108,24 @@ module _ (posts own : ℕ) (last : List ℕ) (t : ℕ) (ms : List Message) where
               let o = one_yes (eqb s q) y in
               let n = get_or-set_same counts s (get_or counts s 0 + 1) 0 (let z = g.sixteen in omega arith) in
               let n' : get_or (set counts s (get_or counts s 0 + 1)) q 0 ≡ get_or counts q 0 + 1 = subst (λ (x : ℕ). get_or (set counts s (get_or counts s 0 + 1)) x 0 ≡ get_or counts x 0 + 1) d n in
-              omega arith)
+              rw pc (omega arith))
               (λ y. let a = g.each q lq in
               let b = many_cons (by q) m rest in
               let o = one_eqb s q (neqb→ne s q y) in
               let n = get_or-set_other counts s q (get_or counts s 0 + 1) 0 (λ z. neqb→ne s q y (sym z)) in
-              omega arith);
+              rw pc (omega arith));
           takes = let a = g.takes in let b = many_cons (λ x. by own x && is_take x) m rest in omega arith;
           returns = let a = g.returns in let b = many_cons (λ x. by own x && is_return x) m rest in omega arith;
           end = ap (λ (x : ℕ). end_kind own x rest) pe ∙ g.end;
-          sixteen = length-set counts s _ ∙ g.sixteen;
+          sixteen = ap length pc ∙ length-set counts s _ ∙ g.sixteen;
         }
 
   -- after the last of them
-  pub right : {top : ℕ} {counts : List ℕ} {tk rt e : ℕ} → Going [] top counts tk rt e → (all (fair posts last) ms && rises stamp t ms) ≡ true
+  pub right : {top : ℕ} {seen : Seen} → Going [] top seen → (all (fair posts last) ms && rises stamp t ms) ≡ true
   unfolding all rises
   right g = sym g.orderly
 
-  pub found : {top : ℕ} {counts : List ℕ} {tk rt e : ℕ} → Going [] top counts tk rt e → Found own ms (record { counts = counts; takes = tk; returns = rt; end = e })
+  pub found : {top : ℕ} {seen : Seen} → Going [] top seen → Found own ms seen
   unfolding keep end_kind
   found g = record {
     counts = λ q l. let a = g.each q l in omega arith;

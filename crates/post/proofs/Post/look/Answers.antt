@@ -1,7 +1,7 @@
 -- The invariant says what has been found and what is still to be looked at (`Going`). Assumes nothing.
 use borrow.Author.Rules.{rules}
 use Prim.Native.Nat.{ℕ, ◌≤◌}
-use mathlib.Core.Path.{◌≡◌, ◌∙◌, sym}
+use mathlib.Core.Path.{◌≡◌, refl, ◌∙◌, sym}
 use mathlib.Core.Bool.{Bool, true}
 use mathlib.Core.List.{List}
 use native.Mathlib.Omega.{arith}
@@ -34,32 +34,32 @@ returns-then-not-is_fair c =
       | then-not-is_fair-via-else-not-is_fair+then-t-top w ↦ low _ _ _ _ _ (here _ _ _ _ _ c.loop-m-test.true c.loop-m.invariant) (let e = c.stamp-t.ensures in omega arith)
     ])
 
-pub bounds-counts-m : goal.bounds-counts-m
-bounds-counts-m c =
+pub bounds-seen-m : goal.bounds-seen-m
+bounds-seen-m c =
     let p = c.args.self.now in
     let h : 16 ≤ length p.last = search rules in
     let f = has p.posts p.last _ (omega arith) c.is_fair.ensures c.if-not-is_fair.false in omega arith
 
-pub overflow_add-counts : goal.overflow_add-counts
-overflow_add-counts c =
+pub overflow_add-seen : goal.overflow_add-seen
+overflow_add-seen c =
     let p = c.args.self.now in
     let h : 16 ≤ length p.last = search rules in
     let f = has p.posts p.last _ (omega arith) c.is_fair.ensures c.if-not-is_fair.false in
     let g = each_small _ _ _ _ _ (here _ _ _ _ _ c.loop-m-test.true c.loop-m.invariant) (omega arith) (get_or c.split_at.result.0.now c.loop-m.m-index blank).sender (omega arith) in
     record { fits = omega arith }
 
-pub bounds-counts-m-in-loop-m : goal.bounds-counts-m-in-loop-m
-bounds-counts-m-in-loop-m c =
+pub bounds-seen-m-in-loop-m : goal.bounds-seen-m-in-loop-m
+bounds-seen-m-in-loop-m c =
     let p = c.args.self.now in
     let h : 16 ≤ length p.last = search rules in
     let f = has p.posts p.last _ (omega arith) c.is_fair.ensures c.if-not-is_fair.false in omega arith
 
-pub overflow_add-takes : goal.overflow_add-takes
-overflow_add-takes c =
+pub overflow_add-seen-then-m-eq-TAKE : goal.overflow_add-seen-then-m-eq-TAKE
+overflow_add-seen-then-m-eq-TAKE c =
     let h = takes_small _ _ _ _ _ (here _ _ _ _ _ c.loop-m-test.true c.loop-m.invariant) (omega arith) in record { fits = omega arith }
 
-pub overflow_add-returns : goal.overflow_add-returns
-overflow_add-returns c =
+pub overflow_add-seen-else-m-eq-TAKE : goal.overflow_add-seen-else-m-eq-TAKE
+overflow_add-seen-else-m-eq-TAKE c =
     let h = returns_small _ _ _ _ _ (here _ _ _ _ _ c.loop-m-test.true c.loop-m.invariant) (omega arith) in record { fits = omega arith }
 
 pub loop-m-preserved : goal.loop-m-preserved
@@ -73,10 +73,10 @@ loop-m-preserved c =
     elim c.if-m-self.branch [
       | then-m-self w ↦ let y = eq-eqb m.sender p.own w.if-m-self.true in
           elim w.if-m-eq-TAKE.branch [
-            | then-m-eq-TAKE v ↦ turn (rw (y, v.if-m-eq-TAKE.true) (omega arith)) (rw (y, v.if-m-eq-TAKE.true) (omega arith)) (rw y w.end-is)
-            | else-m-eq-TAKE v ↦ let k = else_return m f.kind v.if-m-eq-TAKE.false in turn (rw (y, k) (omega arith)) (rw (y, k) (omega arith)) (rw y w.end-is)
+            | then-m-eq-TAKE v ↦ rw (w.seen-is, v.seen-is) (turn _ refl (rw (y, v.if-m-eq-TAKE.true)) (rw (y, v.if-m-eq-TAKE.true) (omega arith)) (rw y))
+            | else-m-eq-TAKE v ↦ let k = else_return m f.kind v.if-m-eq-TAKE.false in rw (w.seen-is, v.seen-is) (turn _ refl (rw (y, k) (omega arith)) (rw (y, k)) (rw y))
           ]
-      | else-m-self w ↦ let y = ne_eqb m.sender p.own w.if-m-self.false in turn (rw y (omega arith)) (rw y (omega arith)) (rw y w.end-is)
+      | else-m-self w ↦ let y = ne_eqb m.sender p.own w.if-m-self.false in rw w.seen-is (turn _ refl (rw y (omega arith)) (rw y (omega arith)) (rw y))
     ]
 
 pub returns : goal.returns
