@@ -7,13 +7,7 @@ ghost use Rattle.post.specs.Record.{last_of, floor};
 
 use crate::{Post, stamp};
 
-// Those at numbers N and above are 0, and none is above the clock.
-pub(crate) fn fit(last: &[u32; 16], posts: u8, clock: u32) -> bool
-    ensures { result ≡ list_all (λ x. (ltb x.0 posts || eqb x.1 0) && leb x.1 clock) (enumerate_from 0 last.now) }
-{
-    last.iter().enumerate().all(|(q, c)| (q < usize::from(posts) || *c == 0) && *c <= clock)
-}
-
+// Of all posts.
 pub(crate) fn sum(last: &[u32]) -> u64
     requires { length last.now ≤ 16 }
     ensures { result ≡ sum last.now }
@@ -32,6 +26,17 @@ pub(crate) fn few(counts: &[u8], own: u8) -> bool
 }
 
 impl Post {
+    // Those at numbers N and above are 0, and none is above the clock.
+    pub(crate) fn lasts_fit(&self) -> bool
+        ensures { result ≡ list_all (λ x. (ltb x.0 self.now.posts || eqb x.1 0) && leb x.1 self.now.clock) (enumerate_from 0 self.now.last) }
+    {
+        let posts = usize::from(self.posts);
+        self.last
+            .iter()
+            .enumerate()
+            .all(|(q, c)| (q < posts || *c == 0) && *c <= self.clock)
+    }
+
     // The floor: the least stamp over the other posts, above every stamp where there is none.
     pub(crate) fn floor(&self) -> u64
         requires { self.now.posts ≤ 16 }

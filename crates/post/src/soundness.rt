@@ -22,7 +22,7 @@ impl Post {
         rules::in_range(start)
             && self.phase <= Self::HOLDING
             && self.waits <= 62
-            && lasts::fit(&self.last, self.posts, self.clock)
+            && self.lasts_fit()
     }
 
     fn slots_checked(&self) -> Option<Seen>

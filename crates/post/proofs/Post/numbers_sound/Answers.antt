@@ -8,5 +8,5 @@ pub returns-then-self-le62 : goal.returns-then-self-le62
 unfolding number_rules
 returns-then-self-le62 c =
     let p = c.args.self.now in
-    let e : c.fit.result ≡ absent_silent p && clock_above p = c.fit.ensures ∙ lasts_fit p (search rules) in
+    let e : c.lasts_fit.result ≡ absent_silent p && clock_above p = c.lasts_fit.ensures ∙ lasts_fit p (search rules) in
     grind (arith, common_steps)
