@@ -1,19 +1,20 @@
 -- What feeding and finishing use and write fits what they are given. Assumes nothing.
-use mathlib.Core.Path.{◌≡◌, refl, ap, ◌∙◌}
-use mathlib.Core.Bool.{Bool, true, false, cond, ◌||◌}
+use mathlib.Core.Path.{◌≡◌, refl, ap, ◌∙◌, sym, subst}
+use mathlib.Core.Bool.{Bool, true, false, true≢false, cond, ◌||◌}
 use mathlib.Core.List.{List, [], ◌∷◌}
-use Prim.Native.Nat.{ℕ, ◌+◌, ◌-◌, ◌≤◌}
+use Prim.Native.Nat.{ℕ, ◌+◌, ◌-◌, ◌≤◌, ◌<◌}
 use native.Mathlib.Omega.{arith}
 use borrow.Author.Tests.{ltb-false}
 use lib.Dec.{ltb}
 use lib.ListN.{length}
 use lib.Seq.{sets, length-sets}
+use Rattle.std.proofs.Common.{Option, Some, None}
+use Rattle.std.specs.Option.{IfSome}
 use Rattle.bench.specs.declared.Bench.{Bench}
 use Rattle.bench.specs.declared.Fed.{Fed}
-use Rattle.bench.specs.declared.Finished.{Finished}
-use Rattle.bench.specs.Bench.{is_over, stepped, Feeding, feeding, Feeds, ending, finished, finished_bytes, Ends}
+use Rattle.bench.specs.Bench.{is_over, stepped, stopped, Feeding, feeding, Feeds, ending, finished, finished_bytes, Ends}
 use Rattle.bench.proofs.Feeding.{roomy}
-use Rattle.bench.proofs.Running.{stepped-few, ending-few}
+use Rattle.bench.proofs.Running.{stepped-few, ending-few, one_used}
 
 -- no more than the input is used, and what is written stands in the buffer, which stays as long as it is
 pub record Fitting (part out : List ℕ) (used : ℕ) (f : Feeding) : Type 0 where
@@ -35,7 +36,7 @@ feeding_fits b (x ∷ xs) used at out h =
     more = feeding (stepped b x).bench xs (used + 1) (at + length text) (sets out at text)
 
     go : (t : Bool) → is_over b || ltb (length out - at) 64 ≡ t → (at + length text ≤ length out → Fitting xs (sets out at text) (used + 1) more)
-        → Fitting (x ∷ xs) out used (cond t (record { fed = record { bench = b; used = used; written = at; over = is_over b }; bytes = out }) more)
+        → Fitting (x ∷ xs) out used (cond t (stopped b used at out) more)
     go true e r = record { used_most = omega arith; written_most = h; long = refl }
     go false e r =
         let room = roomy b at out e in
@@ -46,35 +47,52 @@ feeding_fits b (x ∷ xs) used at out h =
         let w = f.written_most in
         record { used_most = omega arith; written_most = omega arith; long = f.long ∙ l }
 
-pub finished_fits : (b : Bench) (out : List ℕ) → (finished b out).written ≤ length out
+pub finished_fits : (b : Bench) (out : List ℕ) → IfSome (finished b out) (λ n. n ≤ length out)
 unfolding finished
 finished_fits b out = go (ltb (length out) 64) refl
   where
-    go : (t : Bool) → ltb (length out) 64 ≡ t → (cond {A = Finished} t (record { written = 0; done = false }) (record { written = length (ending b); done = true })).written ≤ length out
-    go true e = omega arith
+    go : (t : Bool) → ltb (length out) 64 ≡ t → IfSome (cond t None (Some (length (ending b)))) (λ n. n ≤ length out)
+    go true e = tt
     go false e = let h = ltb-false (length out) 64 e in let few = ending-few b in omega arith
+
+-- with room, a byte is used as long as it goes on
+over_stays : (b : Bench) (x : ℕ) (xs out : List ℕ) → is_over b ≡ true → (feeding b (x ∷ xs) 0 0 out).fed.over ≡ true
+unfolding feeding
+over_stays b x xs out e = rw e
+
+goes : (b : Bench) (l out : List ℕ) → 64 ≤ length out → 0 < length l → (feeding b l 0 0 out).fed.over ≡ false → 0 < (feeding b l 0 0 out).fed.used
+goes b [] out k h e = absurd (omega arith)
+goes b (x ∷ xs) out k h e = go (is_over b) refl
+  where
+    go : (t : Bool) → is_over b ≡ t → 0 < (feeding b (x ∷ xs) 0 0 out).fed.used
+    go true d = absurd (true≢false (sym (over_stays b x xs out d) ∙ e))
+    go false d = let u = one_used b x xs out d k in omega arith
 
 -- ---- the same of what feed and finish hand back
 
-pub fed_fits : (b : Bench) (part out : List ℕ) (r : Fed) (after : List ℕ) → Feeds (feeding b part 0 0 out) r after
-    → (r.used ≤ length part) × (r.written ≤ length out) × (length after ≡ length out)
-fed_fits b part out r after p =
-    let f = feeding_fits b part 0 0 out (omega arith) in
-    (go r.used (λ i. (p.gives i).used) f.used_most, again r.written (λ i. (p.gives i).written) f.written_most, ap length p.leaves ∙ f.long)
-  where
-    go : (y : ℕ) → y ≡ (feeding b part 0 0 out).fed.used → (feeding b part 0 0 out).fed.used ≤ 0 + length part → y ≤ length part
-    go y e h = omega arith
+module _ (b : Bench) (part out : List ℕ) (b' : Bench) (r : Fed) (after : List ℕ) (p : Feeds (feeding b part 0 0 out) b' r after) where
+  pub fed_fits : (r.used ≤ length part) × (r.written ≤ length out) × (length after ≡ length out)
+  fed_fits =
+      let f = feeding_fits b part 0 0 out (omega arith) in
+      let u = f.used_most in
+      let w = f.written_most in
+      let e : r.used ≡ (feeding b part 0 0 out).fed.used = λ i. (p.gives i).used in
+      let d : r.written ≡ (feeding b part 0 0 out).fed.written = λ i. (p.gives i).written in
+      (omega arith, omega arith, ap length p.leaves ∙ f.long)
 
-    again : (y : ℕ) → y ≡ (feeding b part 0 0 out).fed.written → (feeding b part 0 0 out).fed.written ≤ length out → y ≤ length out
-    again y e h = omega arith
+  pub fed_on : r.over ≡ false → 0 < length part → 64 ≤ length out → 0 < r.used
+  fed_on o h k =
+      let u = goes b part out k h ((λ i. (sym p.gives i).over) ∙ o) in
+      let e : r.used ≡ (feeding b part 0 0 out).fed.used = λ i. (p.gives i).used in
+      omega arith
 
-pub ended_fits : (b : Bench) (out : List ℕ) (r : Finished) (after : List ℕ) → Ends (finished b out) (finished_bytes b out) r after → r.written ≤ length after
+pub ended_fits : (b : Bench) (out : List ℕ) (r : Option ℕ) (after : List ℕ) → Ends (finished b out) (finished_bytes b out) r after → (n : ℕ) → r ≡ Some n → n ≤ length after
 unfolding finished_bytes
-ended_fits b out r after p = go r.written (λ i. (p.gives i).written) (finished_fits b out) (ap length p.leaves ∙ long (ltb (length out) 64))
+ended_fits b out r after p n e =
+    let l = ap length p.leaves ∙ long (ltb (length out) 64) in
+    let h = subst (λ (o : Option ℕ). IfSome o (λ n. n ≤ length out)) (sym p.gives ∙ e) (finished_fits b out) in
+    omega (arith, h)
   where
     long : (t : Bool) → length (cond t out (sets out 0 (ending b))) ≡ length out
     long true = refl
     long false = length-sets out 0 (ending b)
-
-    go : (y : ℕ) → y ≡ (finished b out).written → (finished b out).written ≤ length out → length after ≡ length out → y ≤ length after
-    go y e h l = omega arith

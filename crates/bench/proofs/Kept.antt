@@ -18,12 +18,12 @@ use Rattle.laws.proofs.ScanLaws.{all_at}
 use Rattle.bench.specs.declared.Line.{Line}
 use Rattle.bench.specs.declared.lines.Command.{Command}
 use Rattle.bench.specs.declared.lines.Header.{Header}
-use Rattle.bench.specs.declared.lines.Command.TheVariants.{Unknown}
-use Rattle.laws.specs.Search.{same, from, pairs}
+use Rattle.laws.specs.Search.{from, pairs}
+use Rattle.std.specs.Str.{bytes_eq}
 use Rattle.text.specs.Decimal.{digits}
 use Rattle.bench.specs.Text.{text}
 use Rattle.bench.specs.Lines.{empty, pushed, kept, in_range_for, every_command, command_of, heading, header_text, header_of}
-use Rattle.laws.proofs.SearchLaws.{same→eq, eq→same, first_cong}
+use Rattle.laws.proofs.SearchLaws.{same, is_same, find_cong}
 
 -- ---- the line that is kept of a piece
 
@@ -65,11 +65,11 @@ holds_more l piece b h = ⊎_elim full room (leb-total 8 (length piece))
 
 -- ---- what the kept bytes say
 
-same_short : (w l : List ℕ) → length w < 8 → same w (take 8 l) ≡ same w l
+same_short : (w l : List ℕ) → length w < 8 → bytes_eq w (take 8 l) ≡ bytes_eq w l
 same_short w l h =
-    same_test (same w (take 8 l)) (same w l)
-    (λ t. let e = same→eq w (take 8 l) t in eq→same w l (e ∙ take_all 8 l (fits (ap length e ∙ length-take 8 l))))
-    (λ t. let e = same→eq w l t in let k = ap length e in eq→same w (take 8 l) (e ∙ sym (take_all 8 l (omega arith))))
+    same_test (bytes_eq w (take 8 l)) (bytes_eq w l)
+    (λ t. let e = same w (take 8 l) t in is_same w l (e ∙ take_all 8 l (fits (ap length e ∙ length-take 8 l))))
+    (λ t. let e = same w l t in let k = ap length e in is_same w (take 8 l) (e ∙ sym (take_all 8 l (omega arith))))
   where
     fits : length w ≡ min 8 (length l) → length l ≤ 8
     fits e = ⊎_elim (λ k. let z = e ∙ min-eq_left k in absurd (omega arith)) (λ k. omega arith) (leb-total 8 (length l))
@@ -81,7 +81,7 @@ commands_short = all_at (λ c. ltb (length (text c)) 8) every_command tt
 pub command_kept : (n : ℕ) (l : List ℕ) → command_of n (take 8 l) ≡ command_of n l
 unfolding command_of
 command_kept n l =
-    first_cong (λ c. same (text c) (take 8 l)) (λ c. same (text c) l) Unknown (keep (in_range_for n) every_command)
+    find_cong (λ c. bytes_eq (text c) (take 8 l)) (λ c. bytes_eq (text c) l) (keep (in_range_for n) every_command)
     (λ c i. same_short (text c) l (ltb→lt (length (text c)) 8 (commands_short c (keep_in (in_range_for n) c every_command i).0)))
 
 headers_short : (h : Header) → In h (pairs heading (from 1 16) (from 1 16)) → T (ltb (length (header_text h)) 8)
@@ -91,5 +91,5 @@ headers_short = all_at (λ h. ltb (length (header_text h)) 8) (pairs heading (fr
 pub header_kept : (l : List ℕ) → header_of (take 8 l) ≡ header_of l
 unfolding header_of
 header_kept l =
-    first_cong (λ h. same (header_text h) (take 8 l)) (λ h. same (header_text h) l) (heading 0 0) (pairs heading (from 1 16) (from 1 16))
+    find_cong (λ h. bytes_eq (header_text h) (take 8 l)) (λ h. bytes_eq (header_text h) l) (pairs heading (from 1 16) (from 1 16))
     (λ h i. same_short (header_text h) l (ltb→lt (length (header_text h)) 8 (headers_short h i)))

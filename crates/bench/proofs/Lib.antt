@@ -1,7 +1,7 @@
 -- Why the bench writes what document 01 says.
 mod Lengths  -- how long texts are
-mod Digits  -- numbers in a line, by their bytes
-mod Guessing  -- a line is its guess or nothing
+mod Parsing  -- a line is what is read of it, if that is in range
+mod Pages  -- texts written one after the other
 mod Kept  -- the first 8 bytes of a line are enough
 mod Nights  -- what a command does, from what the code found
 mod Turning  -- what a whole line makes of the bench

@@ -14,16 +14,15 @@ use Rattle.bench.specs.declared.Night.{Night}
 use Rattle.bench.specs.declared.Bench.{Bench}
 use Rattle.bench.specs.declared.lines.Header.{Header}
 use Rattle.bench.specs.declared.lines.Command.{Command}
-use Rattle.bench.specs.declared.lines.Command.TheVariants.{Unknown}
-use Rattle.laws.specs.Search.{first, same, from, pairs}
+use Rattle.std.specs.Prelude.{Option, Some, None}
+use Rattle.laws.specs.Search.{from, pairs}
 use Rattle.text.specs.Decimal.{digits}
 use Rattle.bench.specs.Text.{answer_line, bad_header}
 use Rattle.bench.specs.Lines.{empty, header_of, header_text, command_of}
-use Rattle.bench.specs.Night.{begun, ran}
-use Rattle.bench.specs.Bench.{Step, writes, halted, longer, headed, stops, turned, plain, stepped, closing, last_piece, closed, ending, unfed}
+use Rattle.bench.specs.Night.{ran}
+use Rattle.bench.specs.Bench.{Step, writes, halted, longer, opening, opens, headed, stops, turned, plain, stepped, closing, last_piece, closed, ending, unfed}
 use Rattle.bench.specs.Output.{lines_from, answers_to, night_of, night_from, output}
-use Rattle.bench.proofs.Turning.{answers_is, turned_header, turned_command, turned_stop}
-use Rattle.bench.proofs.Feeding.{pending, none_pending}
+use Rattle.bench.proofs.Turning.{answers_is, turned_header, turned_command, turned_stop, pending, none_pending}
 use Rattle.bench.proofs.Kept.{Holds, holds_none, holds_more, command_kept, header_kept}
 use Rattle.bench.proofs.Running.{runs, runs_step, over_runs}
 
@@ -36,10 +35,6 @@ lines_lf piece xs x e = rw (eq-eqb x 10 e)
 lines_on : (piece xs : List ℕ) (x : ℕ) → (x ≡ 10 → ⊥) → lines_from piece (x ∷ xs) ≡ lines_from (piece ++ (x ∷ [])) xs
 unfolding lines_from
 lines_on piece xs x e = rw (ne_eqb x 10 e)
-
-lines_none : lines_from [] [] ≡ []
-unfolding lines_from
-lines_none = refl
 
 lines_last : (piece : List ℕ) → 0 < length piece → lines_from piece [] ≡ piece ∷ []
 unfolding lines_from
@@ -105,7 +100,7 @@ module _ (posts places : ℕ) (s : Night) (i : ℕ) (l : List ℕ) (ls : List (L
   unfolding answers_to
   answers_more h = rw (lt-ltb i 256 h)
 
-  answers_stop : 256 ≤ i → answers_to posts places s i (l ∷ ls) ≡ answer_line 257 Unknown 17 false ++ closing places s
+  answers_stop : 256 ≤ i → answers_to posts places s i (l ∷ ls) ≡ answer_line 257 None 17 false ++ closing places s
   unfolding answers_to
   answers_stop h = rw (le-ltb i 256 h)
 
@@ -117,7 +112,7 @@ record Going (b : Bench) (piece : List ℕ) : Type 0 where
   full : b.number ≡ 256 → length piece ≡ 0
 
 module _ (b : Bench) (piece : List ℕ) (g : Going b piece) where
-  abbrev asks : Command
+  abbrev asks : Option Command
   asks = command_of b.posts piece
 
   abbrev next : Bench
@@ -194,38 +189,21 @@ commands_run (x ∷ xs) b piece g =
 
 -- ---- the header
 
-abbrev heads : Bench → Header → Step
-heads b h =
-    cond (eqb h.posts 0) (writes (halted b) bad_header)
-    (writes (record { night = begun h.posts h.places; posts = h.posts; places = h.places; number = 0; mode = 1; line = empty }) [])
-
-headed_piece : (b : Bench) (piece : List ℕ) → b.mode ≡ 0 → Holds b.line piece → turned b ≡ heads b (header_of piece)
+headed_piece : (b : Bench) (piece : List ℕ) → b.mode ≡ 0 → Holds b.line piece → turned b ≡ opens b (header_of piece)
 unfolding headed
-headed_piece b piece m h = turned_header b m ∙ ap (heads b) (ap header_of h.text ∙ header_kept piece)
+headed_piece b piece m h = turned_header b m ∙ ap (opens b) (ap header_of h.text ∙ header_kept piece)
 
-heads_end : (b : Bench) (h : Header) → closed (heads b h) ≡ night_of h []
+opens_end : (b : Bench) (h : Option Header) → closed (opens b h) ≡ night_of h []
 unfolding closed answers_to
-heads_end b h = go (eqb h.posts 0)
-  where
-    go : (t : Bool) → closed (cond t (writes (halted b) bad_header)
-        (writes (record { night = begun h.posts h.places; posts = h.posts; places = h.places; number = 0; mode = 1; line = empty }) []))
-        ≡ cond t bad_header (answers_to h.posts h.places (begun h.posts h.places) 0 [])
-    go true = refl
-    go false = refl
+opens_end b (Some h) = refl
+opens_end b None = refl
 
-heads_run : (b : Bench) (h : Header) (xs : List ℕ) → (heads b h).text ++ runs (heads b h).bench xs ≡ night_of h (lines_from [] xs)
-heads_run b h xs = go (eqb h.posts 0)
-  where
-    start : Bench
-    start = record { night = begun h.posts h.places; posts = h.posts; places = h.places; number = 0; mode = 1; line = empty }
-
-    go : (t : Bool) → (cond t (writes (halted b) bad_header) (writes start [])).text ++ runs (cond t (writes (halted b) bad_header) (writes start [])).bench xs
-        ≡ cond t bad_header (answers_to h.posts h.places (begun h.posts h.places) 0 (lines_from [] xs))
-    go true = ap (λ (l : List ℕ). bad_header ++ l) (over_runs (halted b) xs refl)
-    go false = commands_run xs start [] (record { mode = refl; holds = holds_none; few = omega arith; full = λ e. refl })
+opens_run : (b : Bench) (h : Option Header) (xs : List ℕ) → (opens b h).text ++ runs (opens b h).bench xs ≡ night_of h (lines_from [] xs)
+opens_run b (Some h) xs = commands_run xs (opening h) [] (record { mode = refl; holds = holds_none; few = omega arith; full = λ e. refl })
+opens_run b None xs = ap (λ (l : List ℕ). bad_header ++ l) (over_runs (halted b) xs refl)
 
 no_header : night_of (header_of []) [] ≡ bad_header
-unfolding header_of first same pairs from header_text digits
+unfolding header_of pairs from header_text digits
 no_header = refl
 
 -- a line that ends: the last of the input, or with LF
@@ -237,13 +215,13 @@ night_piece (x ∷ xs) = rw (ne_eqb (length (x ∷ xs)) 0 (λ e. omega arith))
 header_runs : (xs : List ℕ) (b : Bench) (piece : List ℕ) → b.mode ≡ 0 → Holds b.line piece → runs b xs ≡ night_from (lines_from piece xs)
 unfolding runs night_from
 header_runs [] b piece m h =
-    ending_on b (omega arith) ∙ ap closed (pending b (rw (eq-eqb b.mode 0 m)) ∙ headed_piece b piece m h) ∙ heads_end b (header_of piece) ∙ sym (night_piece piece)
+    ending_on b (omega arith) ∙ ap closed (pending b (rw (eq-eqb b.mode 0 m)) ∙ headed_piece b piece m h) ∙ opens_end b (header_of piece) ∙ sym (night_piece piece)
 header_runs (x ∷ xs) b piece m h =
     test (eqb x 10)
     (λ y.
     let e = eqb→eq x 10 y in
-    runs_as b x xs (heads b (header_of piece)) (omega arith) (turns_lf b x e ∙ headed_piece b piece m h)
-    ∙ heads_run b (header_of piece) xs
+    runs_as b x xs (opens b (header_of piece)) (omega arith) (turns_lf b x e ∙ headed_piece b piece m h)
+    ∙ opens_run b (header_of piece) xs
     ∙ sym (ap night_from (lines_lf piece xs x e)))
     (λ n.
     let d = neqb→ne x 10 n in

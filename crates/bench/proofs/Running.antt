@@ -2,22 +2,22 @@
 use mathlib.Core.Path.{◌≡◌, refl, ap, ◌∙◌, sym}
 use mathlib.Core.Bool.{Bool, true, false, not, cond, ◌||◌}
 use mathlib.Core.List.{List, [], ◌∷◌, ◌++◌, append_assoc}
-use Prim.Native.Nat.{ℕ, suc, ◌+◌, ◌-◌, ◌≤◌, ◌<◌}
+use Prim.Native.Nat.{ℕ, suc, ◌+◌, ◌-◌, ◌≤◌}
 use native.Mathlib.Omega.{arith}
-use borrow.Author.Tests.{le-ltb, lt-leb}
+use borrow.Author.Tests.{le-ltb}
 use lib.Dec.{T, ltb, eqb, eqb→eq}
 use lib.ListN.{length, take, drop, length-append}
 use lib.Seq.{sets, length-sets}
 use Rattle.laws.proofs.Tests.{or_off}
 use Rattle.laws.proofs.StoreLaws.{take_sets}
 use Rattle.bench.specs.declared.Bench.{Bench}
-use Rattle.bench.specs.declared.Fed.{Fed}
+use Rattle.std.specs.Option.{unwrap_or}
 use Rattle.bench.specs.declared.lines.Header.{Header}
-use Rattle.bench.specs.declared.lines.Command.TheVariants.{Unknown}
-use Rattle.bench.specs.Text.{bad_header, answer_line}
-use Rattle.bench.specs.Lines.{empty, kept, header_of, command_of}
-use Rattle.bench.specs.Night.{begun, ran}
-use Rattle.bench.specs.Bench.{Step, writes, is_over, halted, longer, headed, answers, stops, turned, plain, stepped, Feeding, feeding, Feeds, closing, last_piece, closed, ending, finished, finished_bytes, Turns}
+use Rattle.std.specs.Prelude.{Option, Some, None}
+use Rattle.bench.specs.Text.{answer_line}
+use Rattle.bench.specs.Lines.{kept, header_of, command_of}
+use Rattle.bench.specs.Night.{ran}
+use Rattle.bench.specs.Bench.{Step, writes, is_over, longer, opens, headed, answers, stops, turned, plain, stepped, Feeding, stopped, feeding, closing, last_piece, closed, ending, finished, finished_bytes}
 use Rattle.bench.proofs.Lengths.{answer-few, closing-few}
 use Rattle.bench.proofs.Feeding.{roomy}
 
@@ -47,12 +47,11 @@ Few s = (length s.text ≤ 64) × (s.bench.mode ≡ 1 → length s.text ≤ 32)
 
 headed-few : (b : Bench) → Few (headed b)
 unfolding headed
-headed-few b = go (header_of (kept b.line)) (eqb (header_of (kept b.line)).posts 0)
+headed-few b = go (header_of (kept b.line))
   where
-    go : (h : Header) (t : Bool)
-        → Few (cond t (writes (halted b) bad_header) (writes (record { night = begun h.posts h.places; posts = h.posts; places = h.places; number = 0; mode = 1; line = empty }) []))
-    go h true = (omega arith, λ e. absurd (omega arith))
-    go h false = (omega arith, λ e. omega arith)
+    go : (h : Option Header) → Few (opens b h)
+    go (Some h) = (omega arith, λ e. omega arith)
+    go None = (omega arith, λ e. absurd (omega arith))
 
 answers-few : (b : Bench) → Few (answers b)
 unfolding answers
@@ -64,8 +63,8 @@ answers-few b =
 pub stops-few : (b : Bench) → Few (stops b)
 unfolding stops
 stops-few b =
-    let l = length-append (answer_line 257 Unknown 17 false) (closing b.places b.night) in
-    let m = answer-few 257 Unknown 17 false in
+    let l = length-append (answer_line 257 None 17 false) (closing b.places b.night) in
+    let m = answer-few 257 None 17 false in
     let n = closing-few b.places b.night in
     (omega arith, λ e. absurd (omega arith))
 
@@ -117,7 +116,7 @@ used_grows b (x ∷ xs) used at out =
     go (is_over b || ltb (length out - at) 64) r
   where
     go : (t : Bool) → used + 1 ≤ (feeding (stepped b x).bench xs (used + 1) (at + length (stepped b x).text) (sets out at (stepped b x).text)).fed.used
-        → used ≤ (cond t (record { fed = record { bench = b; used = used; written = at; over = is_over b }; bytes = out })
+        → used ≤ (cond t (stopped b used at out)
         (feeding (stepped b x).bench xs (used + 1) (at + length (stepped b x).text) (sets out at (stepped b x).text))).fed.used
     go true r = omega arith
     go false r = omega arith
@@ -131,10 +130,10 @@ one_used b x xs out e h =
 
 -- written so far, with what is to come
 abbrev fed_run : Feeding → ℕ → List ℕ → List ℕ → List ℕ
-fed_run f used part rest = take f.fed.written f.bytes ++ runs f.fed.bench (drop (f.fed.used - used) part ++ rest)
+fed_run f used part rest = take f.fed.written f.bytes ++ runs f.bench (drop (f.fed.used - used) part ++ rest)
 
 stopped_run : (b : Bench) (part rest : List ℕ) (used at : ℕ) (out : List ℕ)
-    → fed_run (record { fed = record { bench = b; used = used; written = at; over = is_over b }; bytes = out }) used part rest ≡ take at out ++ runs b (part ++ rest)
+    → fed_run (stopped b used at out) used part rest ≡ take at out ++ runs b (part ++ rest)
 stopped_run b part rest used at out = ap (λ (k : ℕ). take at out ++ runs b (drop k part ++ rest)) (let e : used - used ≡ 0 = omega arith in e)
 
 pub fed_runs : (b : Bench) (part rest : List ℕ) (used at : ℕ) (out : List ℕ) → at ≤ length out
@@ -153,13 +152,13 @@ fed_runs b (x ∷ xs) rest used at out h =
 
     go : (t : Bool) → is_over b || ltb (length out - at) 64 ≡ t
         → (at + length text ≤ length out → fed_run more (used + 1) xs rest ≡ take (at + length text) (sets out at text) ++ runs (stepped b x).bench (xs ++ rest))
-        → fed_run (cond t (record { fed = record { bench = b; used = used; written = at; over = is_over b }; bytes = out }) more) used (x ∷ xs) rest ≡ take at out ++ runs b (x ∷ xs ++ rest)
+        → fed_run (cond t (stopped b used at out) more) used (x ∷ xs) rest ≡ take at out ++ runs b (x ∷ xs ++ rest)
     go true e r = stopped_run b (x ∷ xs) rest used at out
     go false e r =
         let room = roomy b at out e in
         let few = stepped-few b x in
         let g = used_grows (stepped b x).bench xs (used + 1) (at + length text) (sets out at text) in
-        ap (λ (k : ℕ). take more.fed.written more.bytes ++ runs more.fed.bench (drop k (x ∷ xs) ++ rest))
+        ap (λ (k : ℕ). take more.fed.written more.bytes ++ runs more.bench (drop k (x ∷ xs) ++ rest))
         (let d : more.fed.used - used ≡ suc (more.fed.used - (used + 1)) = omega arith in d)
         ∙ r (omega arith)
         ∙ ap (λ (l : List ℕ). l ++ runs (stepped b x).bench (xs ++ rest)) (take_sets out at text (omega arith))
@@ -168,29 +167,8 @@ fed_runs b (x ∷ xs) rest used at out h =
 
 -- ---- finishing
 
-pub finish_runs : (b : Bench) (out : List ℕ) → 64 ≤ length out → take (finished b out).written (finished_bytes b out) ≡ ending b
+pub finish_runs : (b : Bench) (out : List ℕ) → 64 ≤ length out → take (unwrap_or (finished b out) 0) (finished_bytes b out) ≡ ending b
 unfolding finished finished_bytes
 finish_runs b out h =
     let few = ending-few b in
     rw (le-ltb (length out) 64 h) (ap (λ (k : ℕ). take k (sets out 0 (ending b))) (let e : length (ending b) ≡ 0 + length (ending b) = omega arith in e) ∙ take_sets out 0 (ending b) (omega arith))
-
-module _ (b : Bench) (out : List ℕ) (k : b.mode < 2) (h : 64 ≤ length out) where
-  line_fed : feeding b (10 ∷ []) 0 0 out
-      ≡ record { fed = record { bench = (turned b).bench; used = 0 + 1; written = 0 + length (turned b).text; over = is_over (turned b).bench }; bytes = sets out 0 (turned b).text }
-  unfolding feeding stepped plain
-  line_fed = rw (lt-leb 2 b.mode k, le-ltb (length out - 0) 64 (let z : 64 ≤ length out - 0 = omega arith in z))
-
-  -- a line that lacks its LF is answered as if it had one
-  pub fed_line : (f : Fed) (new : List ℕ) → Feeds (feeding b (10 ∷ []) 0 0 out) f new → Turns (turned b) out new 0 (record { bench = f.bench; at = f.written })
-  fed_line f new p =
-      let e = p.gives ∙ (λ i. (line_fed i).fed) in
-      let o = p.leaves ∙ (λ i. (line_fed i).bytes) in
-      let n : f.written ≡ 0 + length (turned b).text = λ i. (e i).written in
-      let few = turned-few b in
-      let m = few.0 in
-      record {
-        bench = λ i. (e i).bench;
-        puts = record { next_place = n; bytes = o; long = ap length o ∙ length-sets out 0 (turned b).text };
-        few = omega arith;
-        going = λ z. (let l = few.1 ((λ i. (sym e i).bench.mode) ∙ z) in omega arith);
-      }

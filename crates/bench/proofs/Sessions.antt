@@ -15,7 +15,7 @@ unfolding runs
 session_runs (fed b piece rest out written h s) =
     let f = feeding b piece 0 0 out in
     ap (λ (l : List ℕ). take f.fed.written f.bytes ++ l) (session_runs s)
-    ∙ ap (λ (k : ℕ). take f.fed.written f.bytes ++ runs f.fed.bench (drop k piece ++ rest)) (let e : f.fed.used ≡ f.fed.used - 0 = omega arith in e)
+    ∙ ap (λ (k : ℕ). take f.fed.written f.bytes ++ runs f.bench (drop k piece ++ rest)) (let e : f.fed.used ≡ f.fed.used - 0 = omega arith in e)
     ∙ fed_runs b piece rest 0 0 out (omega arith)
 session_runs (ended b rest out h e) =
     finish_runs b out h

@@ -1,50 +1,28 @@
--- What a whole line makes of the bench, from what the code found on the way. Assumes nothing.
-use mathlib.Core.Path.{◌≡◌, refl, ap, ap₂, ◌∙◌, sym}
-use mathlib.Core.Bool.{Bool, true, false, true≢false, not, cond, ◌&&◌}
-use mathlib.Core.List.{List, []}
-use Prim.Native.Nat.{ℕ, ◌+◌, ◌≤◌, ◌<◌}
+-- What a whole line of commands makes of the bench. Assumes nothing.
+use mathlib.Core.Path.{◌≡◌, ap, ap₂, ◌∙◌, sym}
+use mathlib.Core.Bool.{Bool, true, false, not, ◌||◌}
+use mathlib.Core.List.{[]}
+use Prim.Native.Nat.{◌+◌, ◌≤◌, ◌<◌}
+use Rattle.std.specs.Prelude.{Option, Result}
 use native.Mathlib.Omega.{arith}
-use borrow.Author.Tests.{eq-eqb, ne_eqb, eqb-false, lt-ltb, le-ltb, ltb-true, ltb-false}
-use lib.Dec.{eqb, ltb}
-use lib.ListN.{length, get_or}
-use Rattle.laws.specs.Search.{from}
-use Rattle.laws.proofs.Ladders.{on, off}
-use Rattle.text.specs.Puts.{Lays}
-use Rattle.post.specs.declared.Post.{Post}
+use borrow.Author.Tests.{eq-eqb, ne_eqb, lt-ltb, le-ltb}
+use lib.Dec.{eqb}
 use Rattle.bench.specs.declared.Line.{Line}
+use Rattle.bench.specs.declared.Night.{Night}
 use Rattle.bench.specs.declared.Bench.{Bench}
-use Rattle.bench.specs.declared.Turned.{Turned}
-use Rattle.bench.specs.declared.lines.Header.{Header}
+use Rattle.bench.specs.declared.writing.Page.{Page}
+use Rattle.frame.specs.declared.refusal.Refusal.{Refusal}
+use Rattle.frame.specs.Refusal.{number_in}
 use Rattle.bench.specs.declared.lines.Command.{Command}
-use Rattle.bench.specs.declared.commands.Change.{Change}
-use Rattle.bench.specs.Text.{answer_line, bad_header}
-use Rattle.bench.specs.Lines.{empty, kept, header_of, command_of}
-use Rattle.bench.specs.Night.{opened, begun, Ran, ran}
-use Rattle.bench.specs.Inside.{callee_of, pair_of, changed, Changes}
-use Rattle.bench.specs.Bench.{Step, writes, halted, headed, answers, stops, asked, turned, Turns}
+use Rattle.bench.specs.Text.{answer_line}
+use Rattle.bench.specs.Lines.{empty, kept, command_of}
+use Rattle.bench.specs.Night.{Ran, ran}
+use Rattle.bench.specs.Inside.{granted_in, giving, Writes, Room, Turns}
+use Rattle.bench.specs.Bench.{Step, writes, headed, answers, stops, turned, last_piece}
 use Rattle.bench.proofs.Lengths.{answer-few}
 
--- a turn that is another by name
-pub turns_as : {s t : Step} {old new : List ℕ} {at : ℕ} {r : Turned} → s ≡ t → Turns t old new at r → Turns s old new at r
-turns_as e p = rw e p
-
-module _ (b : Bench) (h : Header) (e : h ≡ header_of (kept b.line)) where
-  abbrev heads : Header → Step
-  heads h =
-      cond (eqb h.posts 0) (writes (halted b) bad_header)
-      (writes (record { night = begun h.posts h.places; posts = h.posts; places = h.places; number = 0; mode = 1; line = empty }) [])
-
-  pub headed_bad : h.posts ≡ 0 → headed b ≡ writes (halted b) bad_header
-  unfolding headed
-  headed_bad z = ap heads (sym e) ∙ sym (on (eqb h.posts 0) _ _ (eq-eqb h.posts 0 z) refl)
-
-  pub headed_good : (h.posts ≡ 0 → ⊥)
-      → headed b ≡ writes (record { night = begun h.posts h.places; posts = h.posts; places = h.places; number = 0; mode = 1; line = empty }) []
-  unfolding headed
-  headed_good z = ap heads (sym e) ∙ sym (off (eqb h.posts 0) _ _ (ne_eqb h.posts 0 z) refl)
-
-module _ (b : Bench) (c : Command) (r : Ran) (e : c ≡ command_of b.posts (kept b.line)) (d : r ≡ ran b.night c) where
-  abbrev gives : Command → Ran → Step
+module _ (b : Bench) (c : Option Command) (r : Ran) (e : c ≡ command_of b.posts (kept b.line)) (d : r ≡ ran b.night c) where
+  abbrev gives : Option Command → Ran → Step
   gives c r =
       writes (record { night = r.night; posts = b.posts; places = b.places; number = b.number + 1; mode = 1; line = empty })
       (answer_line (b.number + 1) c r.number r.granted)
@@ -56,61 +34,37 @@ module _ (b : Bench) (c : Command) (r : Ran) (e : c ≡ command_of b.posts (kept
 module _ (b : Bench) where
   pub turned_header : b.mode ≡ 0 → turned b ≡ headed b
   unfolding turned
-  turned_header z = sym (on (eqb b.mode 0) _ _ (eq-eqb b.mode 0 z) refl)
+  turned_header z = rw (eq-eqb b.mode 0 z)
 
   pub turned_command : (b.mode ≡ 0 → ⊥) → b.number < 256 → turned b ≡ answers b
   unfolding turned
-  turned_command z h = sym (off (eqb b.mode 0) _ _ (ne_eqb b.mode 0 z) (on (ltb b.number 256) _ _ (lt-ltb b.number 256 h) refl))
+  turned_command z h = rw (ne_eqb b.mode 0 z, lt-ltb b.number 256 h)
 
   pub turned_stop : (b.mode ≡ 0 → ⊥) → 256 ≤ b.number → turned b ≡ stops b
   unfolding turned
-  turned_stop z h = sym (off (eqb b.mode 0) _ _ (ne_eqb b.mode 0 z) (off (ltb b.number 256) _ _ (le-ltb b.number 256 h) refl))
+  turned_stop z h = rw (ne_eqb b.mode 0 z, le-ltb b.number 256 h)
 
-  -- no command is asked for, and the header is read
-  pub turned-last : (b.mode ≡ 0 → ⊥) → asked b ≡ false → turned b ≡ stops b
-  turned-last z e = turned_stop z (ltb-false b.number 256 (sym (ap (λ (t : Bool). not t && ltb b.number 256) (ne_eqb b.mode 0 z)) ∙ e))
+  pub pending : eqb b.mode 0 || not (eqb b.line.len 0) ≡ true → last_piece b ≡ turned b
+  unfolding last_piece
+  pending t = rw t
 
-  -- and 16 records stay 16
-  pub turned_long : asked b ≡ false → length b.night.posts ≡ 16 → length (turned b).bench.night.posts ≡ 16
-  unfolding turned headed stops begun from
-  turned_long e n = go (eqb b.mode 0) (ltb b.number 256) e
-    where
-      heads : (t : Bool) (h : Header)
-          → length (cond t (writes (halted b) bad_header) (writes (record { night = begun h.posts h.places; posts = h.posts; places = h.places; number = 0; mode = 1; line = empty }) [])).bench.night.posts ≡ 16
-      heads true h = n
-      heads false h = refl
+  pub none_pending : eqb b.mode 0 || not (eqb b.line.len 0) ≡ false → last_piece b ≡ writes b []
+  unfolding last_piece
+  none_pending t = rw t
 
-      go : (s t : Bool) → not s && t ≡ false → length (cond s (headed b) (cond t (answers b) (stops b))).bench.night.posts ≡ 16
-      go true t e = heads (eqb (header_of (kept b.line)).posts 0) (header_of (kept b.line))
-      go false true e = absurd (true≢false e)
-      go false false e = n
-
--- ---- a command, from what the code read and set
-
--- the bench that has answered, with the line that is read then
-abbrev pub answering : Bench → ℕ → ℕ → Change → Line → Bench
-answering b at pair h line = record { night = (changed b.night at pair h).night; posts = b.posts; places = b.places; number = b.number + 1; mode = 1; line = line }
-
-pub asked_is : (mode number : ℕ) → not (eqb mode 0) && ltb number 256 ≡ true → (mode ≡ 0 → ⊥) × (number < 256)
-asked_is mode number e = go (eqb mode 0) refl e
-  where
-    go : (t : Bool) → eqb mode 0 ≡ t → not t && ltb number 256 ≡ true → (mode ≡ 0 → ⊥) × (number < 256)
-    go true d e = absurd (true≢false (sym e))
-    go false d e = (eqb-false mode 0 d, ltb-true number 256 e)
-
-module _ (b : Bench) (c : Command) (h : Change) (at pair : ℕ) (post : Post) (e : c ≡ command_of b.posts (kept b.line)) (k : at ≡ callee_of c) (l : pair ≡ pair_of c)
-    (g : get_or b.night.posts at (opened 0 0 0) ≡ post) (m : Changes (λ s. ran s c) (callee_of c) (pair_of c) post b.night.sent b.night.count (get_or b.night.read pair 0) h) where
-  ran_is : changed b.night at pair h ≡ ran b.night c
-  ran_is =
-      (λ i. changed b.night (k i) (l i) h)
-      ∙ m.makes b.night.posts b.night.read (ap (λ (j : ℕ). get_or b.night.posts j (opened 0 0 0)) (sym k) ∙ g) (ap (λ (j : ℕ). get_or b.night.read j 0) (sym l))
-
-  pub asked_turns : asked b ≡ true → (old new : List ℕ) (place end : ℕ) → place + 64 ≤ length old → Lays old new place (answer_line (b.number + 1) c h.number h.granted) end
-      → Turns (turned b) old new place
-      (record { bench = answering b at pair h empty; at = end })
-  asked_turns t old new place end l q =
-      let a = asked_is b.mode b.number t in
-      let n = answer-few (b.number + 1) c h.number h.granted in
-      let p = q.puts (omega arith) in
+module _ (b : Bench) (c : Option Command) (s : Night) (g : Result Bool Refusal) (e : c ≡ command_of b.posts (kept b.line)) (d : giving s g ≡ ran b.night c) where
+  -- the bench that has answered, and what it wrote
+  pub answers_turn : (line : Line) → line ≡ empty → {old new : Page} → Room old → Writes old new (answer_line (b.number + 1) c (number_in g) (granted_in g))
+      → Turns (answers b) (record { night = s; posts = b.posts; places = b.places; number = b.number + 1; mode = 1; line = line }) old new
+  answers_turn line l h w =
+      let n = answer-few (b.number + 1) c (number_in g) (granted_in g) in
+      let p = w.lays.puts (omega arith) in
       let x = p.next_place in
-      turns_as (turned_command b a.0 a.1 ∙ answers_is b c (changed b.night at pair h) e ran_is) (record { bench = refl; puts = p; few = omega arith; going = λ q. omega arith })
+      rw (answers_is b c (giving s g) e d)
+      (record {
+        bench = λ i. record { night = s; posts = b.posts; places = b.places; number = b.number + 1; mode = 1; line = l i };
+        puts = p;
+        same = w.same;
+        few = omega arith;
+        going = λ z. omega arith;
+      })

@@ -6,6 +6,6 @@ use Rattle.bench.specs.{Bench.{unfed}, Unique.{Unique}}
 pub unique : Unique
 unique = record {
   new = one unfed;
-  feed = λ b input out f g x y p q. (p.gives ∙ sym q.gives, p.leaves ∙ sym q.leaves);
+  feed = λ b input out f g x y p q. ((λ i. ((p.bench ∙ sym q.bench) i, (p.gives ∙ sym q.gives) i)), p.leaves ∙ sym q.leaves);
   finish = λ b out f g x y p q. (p.gives ∙ sym q.gives, p.leaves ∙ sym q.leaves);
 }

@@ -39,7 +39,7 @@ piece n shorter b (x ∷ xs) h =
     let f = whole.fed in
     let u = one_used b x xs buffer e (omega arith) in
     let d = length-drop f.used (x ∷ xs) in
-    let r = shorter f.bench (drop f.used (x ∷ xs) ++ []) (rw (append-nil (drop f.used (x ∷ xs))) (omega arith)) in
+    let r = shorter whole.bench (drop f.used (x ∷ xs) ++ []) (rw (append-nil (drop f.used (x ∷ xs))) (omega arith)) in
     let written = take f.written whole.bytes ++ r.0 in
     (written, subst (λ (l : List ℕ). Session b l written) (append-nil (x ∷ xs)) (fed b (x ∷ xs) [] buffer r.0 (omega arith) r.1)))
   where

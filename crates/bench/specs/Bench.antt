@@ -1,11 +1,10 @@
 -- The bench, fed byte by byte: what each byte does and writes, and what is written at the end of the input.
 use Rattle.std.proofs.lemmas.List.Edits.{sets}
-use Rattle.std.specs.Prelude.{Bool, true, false, not, cond, ◌&&◌, ◌||◌, List, [], ◌∷◌, ◌++◌, ◌≡◌, ℕ, ◌+◌, ◌-◌, ◌≤◌, leb, ltb, eqb, length}
+use Rattle.std.specs.Prelude.{Bool, false, not, cond, ◌&&◌, ◌||◌, Option, None, Some, List, [], ◌∷◌, ◌++◌, ◌≡◌, ℕ, ◌+◌, ◌-◌, leb, ltb, eqb, length}
 use Rattle.laws.specs.Lists.{many}
-use Rattle.text.specs.Puts.{Puts}
 use Rattle.post.specs.declared.Post.{Post}
-use Rattle.bench.specs.{declared.Night.{Night}, declared.Bench.{Bench}, declared.Turned.{Turned}, declared.Fed.{Fed}, declared.Finished.{Finished}}
-use Rattle.bench.specs.{declared.lines.Command.TheVariants.{Unknown}, Text.{answer_line, bad_header, last_line}}
+use Rattle.bench.specs.{declared.Night.{Night}, declared.Bench.{Bench}, declared.Fed.{Fed}}
+use Rattle.bench.specs.{declared.lines.Header.{Header}, Text.{answer_line, bad_header, last_line}}
 use Rattle.bench.specs.{Lines.{empty, pushed, kept, header_of, command_of}, Night.{begun, ran}}
 
 -- how many records are in phases lo to hi
@@ -34,12 +33,17 @@ is_over b = leb 2 b.mode
 abbrev pub halted : Bench → Bench
 halted b = record { night = b.night; posts = b.posts; places = b.places; number = b.number; mode = 2; line = b.line }
 
+-- a night of N posts and K places
+abbrev pub opening : Header → Bench
+opening h = record { night = begun h.posts h.places; posts = h.posts; places = h.places; number = 0; mode = 1; line = empty }
+
+abbrev pub opens : Bench → Option Header → Step
+opens b (Some h) = writes (opening h) []
+opens b None = writes (halted b) bad_header
+
 -- the first line is whole
 unfoldable pub headed : Bench → Step
-headed b =
-    let h = header_of (kept b.line) in
-    cond (eqb h.posts 0) (writes (halted b) bad_header)
-    (writes (record { night = begun h.posts h.places; posts = h.posts; places = h.places; number = 0; mode = 1; line = empty }) [])
+headed b = opens b (header_of (kept b.line))
 
 -- a line of commands is whole
 unfoldable pub answers : Bench → Step
@@ -51,7 +55,7 @@ answers b =
 
 -- line 257 has a byte
 unfoldable pub stops : Bench → Step
-stops b = writes (halted b) (answer_line 257 Unknown 17 false ++ closing b.places b.night)
+stops b = writes (halted b) (answer_line 257 None 17 false ++ closing b.places b.night)
 
 unfoldable pub turned : Bench → Step
 turned b = cond (eqb b.mode 0) (headed b) (cond (ltb b.number 256) (answers b) (stops b))
@@ -69,18 +73,24 @@ stepped b x = cond (plain b x) (writes (longer b x) []) (turned b)
 -- ---- feed: bytes are used while it is not over and 64 bytes of room are left
 
 pub record Feeding : Type 0 where
+  pub bench : Bench
   pub fed : Fed
   pub bytes : List ℕ
 
+-- what stands where it stops
+abbrev pub stopped : Bench → ℕ → ℕ → List ℕ → Feeding
+stopped b used at out = record { bench = b; fed = record { used = used; written = at; over = is_over b }; bytes = out }
+
 -- after so many bytes used and written
 unfoldable pub feeding : Bench → List ℕ → ℕ → ℕ → List ℕ → Feeding
-feeding b [] used at out = record { fed = record { bench = b; used = used; written = at; over = is_over b }; bytes = out }
+feeding b [] used at out = stopped b used at out
 feeding b (x ∷ xs) used at out =
     cond (is_over b || ltb (length out - at) 64)
-    (record { fed = record { bench = b; used = used; written = at; over = is_over b }; bytes = out })
+    (stopped b used at out)
     (feeding (stepped b x).bench xs (used + 1) (at + length (stepped b x).text) (sets out at (stepped b x).text))
 
-pub record Feeds (f : Feeding) (result : Fed) (after : List ℕ) : Type 0 where
+pub record Feeds (f : Feeding) (b : Bench) (result : Fed) (after : List ℕ) : Type 0 where
+  pub bench : b ≡ f.bench
   pub gives : result ≡ f.fed
   pub leaves : after ≡ f.bytes
 
@@ -96,25 +106,13 @@ closed s = s.text ++ cond (eqb s.bench.mode 1) (closing s.bench.places s.bench.n
 unfoldable pub ending : Bench → List ℕ
 ending b = cond (is_over b) [] (closed (last_piece b))
 
-unfoldable pub finished : Bench → List ℕ → Finished
-finished b out = cond (ltb (length out) 64) (record { written = 0; done = false }) (record { written = length (ending b); done = true })
+-- how many bytes are written; none where there is too little room
+unfoldable pub finished : Bench → List ℕ → Option ℕ
+finished b out = cond (ltb (length out) 64) None (Some (length (ending b)))
 
 unfoldable pub finished_bytes : Bench → List ℕ → List ℕ
 finished_bytes b out = cond (ltb (length out) 64) out (sets out 0 (ending b))
 
-pub record Ends (f : Finished) (bytes : List ℕ) (result : Finished) (after : List ℕ) : Type 0 where
+pub record Ends (f : Option ℕ) (bytes : List ℕ) (result : Option ℕ) (after : List ℕ) : Type 0 where
   pub gives : result ≡ f
   pub leaves : after ≡ bytes
-
--- ---- inside
-
--- a line of commands is whole
-abbrev pub asked : Bench → Bool
-asked b = not (eqb b.mode 0) && ltb b.number 256
-
--- a turn made, and its text put from a place on, in at most 64 bytes, or 32 where it is not over
-pub record Turns (s : Step) (old new : List ℕ) (at : ℕ) (r : Turned) : Type 0 where
-  pub bench : r.bench ≡ s.bench
-  pub puts : Puts old new at s.text r.at
-  pub few : r.at ≤ at + 64
-  pub going : r.bench.mode ≡ 1 → r.at ≤ at + 32

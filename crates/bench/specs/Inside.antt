@@ -1,74 +1,87 @@
--- What functions inside the crate promise each other: the one header or command that a line can be, by its digits; what a command changes.
-use Rattle.std.specs.Prelude.{Bool, cond, ◌&&◌, List, ◌≡◌, ℕ, ◌+◌, ◌-◌, ◌*◌, ◌<◌, leb, ltb, eqb, get_or, set}
-use Rattle.frame.specs.declared.Message.{Message}
-use Rattle.post.specs.declared.Post.{Post}
-use Rattle.bench.specs.{declared.Night.{Night}, declared.commands.Change.{Change}, declared.lines.Header.{Header}, declared.lines.Command.{Command}}
-use Rattle.bench.specs.{declared.lines.Command.TheVariants.{Take, Return, Deliver, Unknown}, Lines.{heading}, Night.{opened, Ran}}
+-- What functions inside the crate promise each other: the header or command of a text, in range or not; what a command gives back.
+use Rattle.std.specs.Prelude.{Result, Ok, Err, Bool, false, cond, ◌&&◌, List, length, ◌≡◌, ℕ, ◌+◌, ◌-◌, ◌≤◌, ◌<◌, leb, eqb, nat_eq, Option, Some, None, option_map, option_and_then, position, get_or, take, drop}
+use Rattle.text.specs.Puts.{Puts, Lays}
+use Rattle.frame.specs.{declared.refusal.Refusal.{Refusal}, Refusal.{number_in}, Frame.{fields_of}}
+use Rattle.post.specs.{declared.Answer.{Answer}, Calls.{answer_told}}
+use Rattle.bench.specs.{declared.Night.{Night}, declared.Bench.{Bench}, declared.writing.Page.{Page}, declared.lines.Header.{Header}, declared.lines.Command.{Command}}
+use Rattle.bench.specs.{declared.lines.Command.TheVariants.{Take, Return, Deliver}, Lines.{heading}, Night.{Called, Ran}, Bench.{Step}}
 
--- the digit of a byte; 10 where it is none
-unfoldable pub digit : ℕ → ℕ
-digit b = cond (ltb b 48) 10 (cond (ltb 57 b) 10 (b - 48))
+-- a step that needs the value of another
+infixl 10 ◌>>=◌
+abbrev pub ◌>>=◌ : {A B : Type 0} → Option A → (A → Option B) → Option B
+o >>= f = option_and_then f o
 
--- one or two digits from i on
-unfoldable pub number_at : List ℕ → ℕ → ℕ
-number_at line i = cond (ltb (digit (get_or line (i + 1) 0)) 10) (digit (get_or line i 0) * 10 + digit (get_or line (i + 1) 0)) (digit (get_or line i 0))
+abbrev pub digit_of : ℕ → Option ℕ
+digit_of b = cond (leb 48 b && leb b 57) (Some (b - 48)) None
 
--- where the number after them starts
-unfoldable pub after_at : List ℕ → ℕ → ℕ
-after_at line i = cond (ltb (digit (get_or line (i + 1) 0)) 10) (i + 3) (i + 2)
+-- a number below 20
+unfoldable pub number_of : List ℕ → Option ℕ
+number_of digits =
+    cond (eqb (length digits) 1) (digit_of (get_or digits 0 0))
+    (cond (eqb (length digits) 2 && eqb (get_or digits 0 0) 49) (option_map (λ d. 10 + d) (digit_of (get_or digits 1 0))) None)
 
-unfoldable pub guess_header : List ℕ → Header
-guess_header line = heading (number_at line 0) (number_at line (after_at line 0))
+abbrev pub is_space : ℕ → Bool
+is_space b = nat_eq b 32
 
-unfoldable pub guess_command : List ℕ → Command
-guess_command line =
-    cond (eqb (get_or line 0 0) 84) (Take (number_at line 2))
-    (cond (eqb (get_or line 0 0) 82) (Return (number_at line 2))
-    (cond (eqb (get_or line 0 0) 68) (Deliver (number_at line 2) (number_at line (after_at line 2))) Unknown))
+-- the number before the first space and the number after it
+unfoldable pub pair_of_numbers : List ℕ → Option (ℕ × ℕ)
+pair_of_numbers text = do
+  at ← position is_space text
+  p ← number_of (take at text)
+  q ← number_of (drop (at + 1) text)
+  Some (p, q)
+
+-- a letter and a space begin the text
+abbrev pub begins : ℕ → List ℕ → Bool
+begins letter text = leb 2 (length text) && (eqb (get_or text 0 0) letter && eqb (get_or text 1 0) 32)
+
+unfoldable pub parsed_command : List ℕ → Option Command
+parsed_command text =
+    cond (begins 84 text) (option_map Take (number_of (drop 2 text)))
+    (cond (begins 82 text) (option_map Return (number_of (drop 2 text)))
+    (cond (begins 68 text) (option_map (λ (p, q). Deliver p q) (pair_of_numbers (drop 2 text))) None))
+
+unfoldable pub parsed_header : List ℕ → Option Header
+parsed_header text = option_map (λ (posts, places). heading posts places) (pair_of_numbers text)
 
 -- from 1 to 16
 unfoldable pub header_fits : Header → Bool
 header_fits h = leb 1 h.posts && (leb h.posts 16 && (leb 1 h.places && leb h.places 16))
 
--- its posts are below 16
-abbrev pub Safe : Command → Type 0
-Safe (Take p) = p < 16
-Safe (Return p) = p < 16
-Safe (Deliver p q) = (p < 16) × (q < 16)
-Safe Unknown = Unit
+-- the posts of a command are below 16
+abbrev pub Safe : Option Command → Type 0
+Safe (Some (Take p)) = p < 16
+Safe (Some (Return p)) = p < 16
+Safe (Some (Deliver p q)) = (p < 16) × (q < 16)
+Safe None = Unit
 
--- ---- a command changes one record, one place of the messages sent and one read position at most
+-- ---- what a command gives back
 
--- the post that it calls
-abbrev pub callee_of : Command → ℕ
-callee_of (Take p) = p
-callee_of (Return p) = p
-callee_of (Deliver p q) = q
-callee_of Unknown = 0
+-- an answer, and the message in these bytes
+abbrev pub heard : Answer → List ℕ → Called
+heard a buf = record { answer = answer_told a; message = (fields_of buf).message }
 
--- the place of its read position
-abbrev pub pair_of : Command → ℕ
-pair_of (Take p) = 0
-pair_of (Return p) = 0
-pair_of (Deliver p q) = 16 * p + q
-pair_of Unknown = 0
+-- the night after a command, with what it gave back
+abbrev pub granted_in : Result Bool Refusal → Bool
+granted_in (Ok granted) = granted
+granted_in (Err r) = false
 
-abbrev pub having : List Post → List Message → ℕ → List ℕ → Night
-having posts sent count read = record { posts = posts; sent = sent; count = count; read = read }
+abbrev pub giving : Night → Result Bool Refusal → Ran
+giving s g = record { night = s; number = number_in g; granted = granted_in g }
 
-abbrev pub changed : Night → ℕ → ℕ → Change → Ran
-changed s at pair h = record {
-  night = having (set s.posts at h.post) (set s.sent h.to h.message) h.count (set s.read pair h.read);
-  number = h.number;
-  granted = h.granted;
-}
+-- ---- a text is put on a page, which stays the same lent buffer
+pub record Writes (old new : Page) (text : List ℕ) : Type 0 where
+  pub lays : Lays old.out.now new.out.now old.at text new.at
+  pub same : new.out.ghost_name ≡ old.out.ghost_name
 
--- the change is what f does to every night that has these messages sent, this record at one place and this read position at another
-pub record Changes (f : Night → Ran) (at pair : ℕ) (post : Post) (sent : List Message) (count read : ℕ) (h : Change) : Type 0 where
-  pub to : h.to < 256
-  pub makes : (posts : List Post) (reads : List ℕ) → get_or posts at (opened 0 0 0) ≡ post → get_or reads pair 0 ≡ read
-      → changed (having posts sent count reads) at pair h ≡ f (having posts sent count reads)
+-- the page has room for what any byte can write; no invariant of it, since what is written uses the room up
+abbrev pub Room : Page → Type 0
+Room page = page.at + 64 ≤ length page.out.now
 
--- a read position set
-abbrev pub read_to : Night → ℕ → ℕ → Night
-read_to s pair i = having s.posts s.sent s.count (set s.read pair i)
+-- the bench after a step, and its text put on the page, in at most 64 bytes, or 32 where it is not over
+pub record Turns (s : Step) (b : Bench) (old new : Page) : Type 0 where
+  pub bench : b ≡ s.bench
+  pub puts : Puts old.out.now new.out.now old.at s.text new.at
+  pub same : new.out.ghost_name ≡ old.out.ghost_name
+  pub few : new.at ≤ old.at + 64
+  pub going : b.mode ≡ 1 → new.at ≤ old.at + 32

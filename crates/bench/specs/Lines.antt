@@ -1,9 +1,10 @@
 -- Lines: the one being read, and which header or command a line is.
-use Rattle.std.specs.Prelude.{Bool, false, not, cond, ◌&&◌, List, ◌∷◌, ◌++◌, map, ℕ, ◌+◌, ltb, eqb, take, replicate, set}
+use Rattle.std.specs.Prelude.{Bool, not, cond, ◌&&◌, List, ◌∷◌, ◌++◌, map, ℕ, ◌+◌, ltb, eqb, Option, find, take, replicate, set}
+use Rattle.std.specs.Str.{bytes_eq}
 use Rattle.laws.specs.Lists.{keep}
-use Rattle.laws.specs.Search.{first, same, from, pairs}
+use Rattle.laws.specs.Search.{from, pairs}
 use Rattle.bench.specs.{declared.Line.{Line}, declared.lines.Header.{Header}, declared.lines.Command.{Command}}
-use Rattle.bench.specs.{declared.lines.Command.TheVariants.{Take, Return, Deliver, Unknown}, Text.{decimal, text}}
+use Rattle.bench.specs.{declared.lines.Command.TheVariants.{Take, Return, Deliver}, Text.{decimal, text}}
 
 -- ---- the line being read: its first 8 bytes
 
@@ -27,14 +28,13 @@ unfoldable pub in_range_for : ℕ → Command → Bool
 in_range_for n (Take p) = inside n p
 in_range_for n (Return p) = inside n p
 in_range_for n (Deliver p q) = inside n p && (inside n q && not (eqb p q))
-in_range_for n Unknown = false
 
 unfoldable pub every_command : List Command
 every_command = map Take (from 0 16) ++ (map Return (from 0 16) ++ pairs Deliver (from 0 16) (from 0 16))
 
 -- the command in range for N posts whose text the line is
-unfoldable pub command_of : ℕ → List ℕ → Command
-command_of n line = first (λ c. same (text c) line) Unknown (keep (in_range_for n) every_command)
+unfoldable pub command_of : ℕ → List ℕ → Option Command
+command_of n line = find (λ c. bytes_eq (text c) line) (keep (in_range_for n) every_command)
 
 -- ---- headers
 
@@ -45,6 +45,6 @@ heading posts places = record { posts = posts; places = places }
 unfoldable pub header_text : Header → List ℕ
 header_text h = decimal h.posts ++ (32 ∷ decimal h.places)
 
--- the header with N and K from 1 to 16 whose text the line is; zeros where it is none
-unfoldable pub header_of : List ℕ → Header
-header_of line = first (λ h. same (header_text h) line) (heading 0 0) (pairs heading (from 1 16) (from 1 16))
+-- the header with N and K from 1 to 16 whose text the line is
+unfoldable pub header_of : List ℕ → Option Header
+header_of line = find (λ h. bytes_eq (header_text h) line) (pairs heading (from 1 16) (from 1 16))

@@ -1,11 +1,11 @@
 -- A night: the records, the messages sent, and how far each post has read of each other's. What a command does to it.
-use Rattle.std.specs.Prelude.{Bool, false, cond, ◌&&◌, List, [], ◌∷◌, map, ℕ, ◌+◌, ◌*◌, leb, ltb, eqb, get_or, take, drop, replicate, set}
+use Rattle.std.specs.Prelude.{Bool, false, cond, ◌&&◌, List, [], ◌∷◌, map, ℕ, ◌+◌, ◌*◌, leb, ltb, eqb, Option, Some, None, get_or, take, drop, replicate, set}
 use Rattle.laws.specs.Search.{from}
 use Rattle.frame.specs.{declared.Message.{Message}, Message.{blank, by}, Frame.{size, fields_of, bytes_after}}
-use Rattle.calls.specs.{Start.{starting}, Own.{Own, taking, returning}}
-use Rattle.post.specs.{declared.Post.{Post}, Calls.{Outcome, started, spoke, received}}
-use Rattle.bench.specs.{declared.Night.{Night}, declared.commands.Called.{Called}, declared.lines.Command.{Command}}
-use Rattle.bench.specs.declared.lines.Command.TheVariants.{Take, Return, Deliver, Unknown}
+use Rattle.calls.specs.{Start.{starting}, declared.Own.{Own}, declared.Own.TheVariants.{Taking, Returning}}
+use Rattle.post.specs.{declared.Post.{Post}, Calls.{AnswerTold, Outcome, started, spoke, received}}
+use Rattle.bench.specs.{declared.Night.{Night}, declared.lines.Command.{Command}}
+use Rattle.bench.specs.declared.lines.Command.TheVariants.{Take, Return, Deliver}
 
 -- ---- calls on one post
 
@@ -14,6 +14,10 @@ abbrev pub lent : List ℕ
 lent = replicate size 0
 
 -- a call's answer, and the message in the lent bytes after it
+pub record Called : Type 0 where
+  pub answer : AnswerTold
+  pub message : Message
+
 abbrev pub called : Outcome → Called
 called o = record { answer = o.gives; message = (fields_of o.leaves).message }
 
@@ -81,8 +85,9 @@ offered s p q i =
     let c = receives (post_of s q) (get_or s.sent i blank) in
     answered (cond (eqb c.answer.number 0) (passed (handed_back s q c) p q i) (handed_back s q c)) c
 
-unfoldable pub ran : Night → Command → Ran
-ran s (Take p) = let c = speaks taking (post_of s p) in answered (handed_back s p c) c
-ran s (Return p) = let c = speaks returning (post_of s p) in answered (handed_back s p c) c
-ran s (Deliver p q) = cond (leb 256 (next_of s p q)) (refused s 15) (offered s p q (next_of s p q))
-ran s Unknown = refused s 16
+-- what a line asks for; what is no command is refused
+unfoldable pub ran : Night → Option Command → Ran
+ran s (Some (Take p)) = let c = speaks Taking (post_of s p) in answered (handed_back s p c) c
+ran s (Some (Return p)) = let c = speaks Returning (post_of s p) in answered (handed_back s p c) c
+ran s (Some (Deliver p q)) = cond (leb 256 (next_of s p q)) (refused s 15) (offered s p q (next_of s p q))
+ran s None = refused s 16

@@ -1,6 +1,6 @@
 -- The whole output for a whole input, line by line.
-use Rattle.std.specs.Prelude.{false, cond, List, [], ◌∷◌, ◌++◌, ℕ, ◌+◌, ◌<◌, ltb, eqb, length}
-use Rattle.bench.specs.{declared.Night.{Night}, declared.lines.Header.{Header}, declared.lines.Command.{Command}, declared.lines.Command.TheVariants.{Unknown}, Text.{answer_line, bad_header}}
+use Rattle.std.specs.Prelude.{false, cond, List, [], ◌∷◌, ◌++◌, ℕ, ◌+◌, ◌<◌, ltb, eqb, Option, Some, None, length}
+use Rattle.bench.specs.{declared.Night.{Night}, declared.lines.Header.{Header}, declared.lines.Command.{Command}, Text.{answer_line, bad_header}}
 use Rattle.bench.specs.{Lines.{header_of, command_of}, Night.{begun, ran}, Bench.{closing}}
 
 -- what stands between LFs, after a piece that is read; a last piece counts if it has a byte
@@ -16,10 +16,11 @@ answers_to posts places s i (l ∷ ls) =
     let r = ran s c in
     cond (ltb i 256)
     (answer_line (i + 1) c r.number r.granted ++ answers_to posts places r.night (i + 1) ls)
-    (answer_line 257 Unknown 17 false ++ closing places s)
+    (answer_line 257 None 17 false ++ closing places s)
 
-abbrev pub night_of : Header → List (List ℕ) → List ℕ
-night_of h ls = cond (eqb h.posts 0) bad_header (answers_to h.posts h.places (begun h.posts h.places) 0 ls)
+abbrev pub night_of : Option Header → List (List ℕ) → List ℕ
+night_of (Some h) ls = answers_to h.posts h.places (begun h.posts h.places) 0 ls
+night_of None ls = bad_header
 
 unfoldable pub night_from : List (List ℕ) → List ℕ
 night_from [] = bad_header
@@ -28,11 +29,11 @@ night_from (l ∷ ls) = night_of (header_of l) ls
 unfoldable pub output : List ℕ → List ℕ
 output input = night_from (lines_from [] input)
 
--- the night after commands
-unfoldable pub after_all : Night → List Command → Night
+-- the night after lines, by what they ask for
+unfoldable pub after_all : Night → List (Option Command) → Night
 after_all s [] = s
 after_all s (c ∷ cs) = after_all (ran s c).night cs
 
 -- at each of 256 commands there is a place for what it may write, so no written message is dropped
 abbrev pub NoneDropped : Type 0
-NoneDropped = (posts places : ℕ) (cs : List Command) → length cs < 256 → (after_all (begun posts places) cs).count < 256
+NoneDropped = (posts places : ℕ) (cs : List (Option Command)) → length cs < 256 → (after_all (begun posts places) cs).count < 256

@@ -1,14 +1,14 @@
 -- Feeding a bench piece by piece until all is used or it is over, and finishing it. What is stated of it; `proofs/WholeNights` proves it.
-use Rattle.std.specs.Prelude.{true, false, List, [], ◌∷◌, ◌++◌, ◌≡◌, ◌⊎◌, ℕ, ◌≤◌, length, take, drop}
+use Rattle.std.specs.Prelude.{true, false, unwrap_or, List, [], ◌∷◌, ◌++◌, ◌≡◌, ◌⊎◌, ℕ, ◌≤◌, length, take, drop}
 use Rattle.bench.specs.{declared.Bench.{Bench}, Bench.{is_over, unfed, feeding, finished, finished_bytes}, Output.{output}}
 
 -- A bench with the input that is left, and what is written from then on. A piece of the input is fed, with a buffer of at least 64 bytes;
 -- at the end of the input, or once it is over, it is finished, with such a buffer.
 pub data Session : Bench → List ℕ → List ℕ → Type 0 where
   fed : (b : Bench) (piece rest out written : List ℕ) → 64 ≤ length out
-      → Session (feeding b piece 0 0 out).fed.bench (drop (feeding b piece 0 0 out).fed.used piece ++ rest) written
+      → Session (feeding b piece 0 0 out).bench (drop (feeding b piece 0 0 out).fed.used piece ++ rest) written
       → Session b (piece ++ rest) (take (feeding b piece 0 0 out).fed.written (feeding b piece 0 0 out).bytes ++ written)
-  ended : (b : Bench) (rest out : List ℕ) → 64 ≤ length out → (rest ≡ []) ⊎ (is_over b ≡ true) → Session b rest (take (finished b out).written (finished_bytes b out))
+  ended : (b : Bench) (rest out : List ℕ) → 64 ≤ length out → (rest ≡ []) ⊎ (is_over b ≡ true) → Session b rest (take (unwrap_or (finished b out) 0) (finished_bytes b out))
 
 -- however the input is cut into pieces, and whatever buffers of at least 64 bytes are lent, what a new bench writes is the output of the input
 abbrev pub WholeNight : Type 0

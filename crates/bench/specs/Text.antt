@@ -1,22 +1,26 @@
 -- The texts that the bench reads and writes, as bytes.
-use Rattle.std.specs.Prelude.{Bool, cond, List, [], ◌∷◌, ◌++◌, ℕ}
+use Rattle.std.specs.Prelude.{Bool, cond, List, [], ◌∷◌, ◌++◌, ℕ, Option, Some, None}
 use Rattle.text.specs.Decimal.{digits}
-use Rattle.bench.specs.{declared.lines.Command.{Command}, declared.lines.Command.TheVariants.{Take, Return, Deliver, Unknown}}
+use Rattle.bench.specs.{declared.lines.Command.{Command}, declared.lines.Command.TheVariants.{Take, Return, Deliver}}
 
 -- a number below 1000, decimal without leading zeros
 abbrev pub decimal : ℕ → List ℕ
 decimal n = digits 3 n
 
--- `T p`, `R p`, `D p q`, and `?` for what is no command
+-- `T p`, `R p`, `D p q`
 unfoldable pub text : Command → List ℕ
 text (Take p) = 84 ∷ 32 ∷ decimal p
 text (Return p) = 82 ∷ 32 ∷ decimal p
 text (Deliver p q) = 68 ∷ 32 ∷ decimal p ++ (32 ∷ decimal q)
-text Unknown = 63 ∷ []
+
+-- and `?` for what is no command
+unfoldable pub shown : Option Command → List ℕ
+shown (Some c) = text c
+shown None = 63 ∷ []
 
 -- line number, command, refusal number, `G` for a grant or `-`, one space between, and LF
-unfoldable pub answer_line : ℕ → Command → ℕ → Bool → List ℕ
-answer_line n c number granted = decimal n ++ (32 ∷ text c ++ (32 ∷ decimal number ++ (32 ∷ cond granted 71 45 ∷ 10 ∷ [])))
+unfoldable pub answer_line : ℕ → Option Command → ℕ → Bool → List ℕ
+answer_line n c number granted = decimal n ++ (32 ∷ shown c ++ (32 ∷ decimal number ++ (32 ∷ cond granted 71 45 ∷ 10 ∷ [])))
 
 -- `bad header` and LF
 abbrev pub bad_header : List ℕ

@@ -1,233 +1,113 @@
 // What commands do to the records and the messages sent.
-ghost use Rattle.std.specs.Prelude.{◌≡◌, true, ◌&&◌, ℕ, ◌≤◌, ◌<◌, ◌+◌, ◌*◌, ltb, take, drop};
-ghost use Rattle.calls.specs.Own.{taking, returning};
-ghost use Rattle.post.specs.declared.Post.{Post};
-ghost use Rattle.bench.specs.Night.{speaks, receives, opened, begun, handed_back, seek, refused, answered, offered, ran};
-ghost use Rattle.bench.specs.Inside.{Safe, callee_of, pair_of, read_to, Changes};
+ghost use Rattle.std.specs.Prelude.{◌≡◌, ◌+◌, ◌*◌, ◌<◌, IfSome, unwrap_or};
+ghost use Rattle.post.specs.declared.{Post.{Post}, Answer.{Answer}};
+ghost use Rattle.bench.specs.Night.{lent, opened, begun, post_of, handed_back, next_of, answered, ran};
+ghost use Rattle.bench.specs.Inside.{Safe, giving, heard};
 
 use crate::Night;
 use crate::lines::Command;
 use calls::Start;
-use frame::Message;
+use frame::Refusal;
 use post::{Answer, Post};
+use std::array;
 
-// What a call handed back, and the message in the bytes lent to it.
-#[derive(Clone, Copy)]
-pub(crate) struct Called {
-    pub answer: Answer,
-    pub message: Message,
-}
-
-// What a command comes to: the record of the post that it calls, the message at place `to` of those sent, how many these are, how far the pair
-// has read, and what is given back. What does not change is as it stood.
-#[derive(Clone, Copy)]
-pub(crate) struct Change {
-    pub post: Post,
-    pub to: usize,
-    pub message: Message,
-    pub count: u16,
-    pub read: u16,
-    pub number: u8,
-    pub granted: bool,
-}
-
-fn take(p: Post) -> Called
-    ensures { result ≡ speaks taking p }
-{
-    let mut buf = [0u8; frame::SIZE];
-    let answer = p.take(&mut buf);
-    let f = frame::split(&buf);
-    let message = f.message;
-    Called { answer, message }
-}
-
-fn give_back(p: Post) -> Called
-    ensures { result ≡ speaks returning p }
-{
-    let mut buf = [0u8; frame::SIZE];
-    let answer = p.give_back(&mut buf);
-    let f = frame::split(&buf);
-    let message = f.message;
-    Called { answer, message }
-}
-
-fn receive(p: Post, m: Message) -> Called
-    ensures { result ≡ receives p m }
-{
-    let mut bytes = [0u8; frame::SIZE];
-    let mut buf = [0u8; frame::SIZE];
-    frame::write(&mut bytes, 0, m);
-    let answer = p.receive(&bytes, &mut buf);
-    let f = frame::split(&buf);
-    let message = f.message;
-    Called { answer, message }
-}
-
+#[tactic(auto, unfolding(crate::specs::Night::opened))]
 fn opened(n: u8, k: u8, p: u8) -> Post
     ensures { result ≡ opened n k p }
 {
-    let s = Post::start(Start {
+    Post::start(Start {
         posts: n,
         own: p,
         feeder: 0,
         places: k,
-    });
-    s.post
+    })
+    .post
 }
 
-pub(crate) fn begin(n: u8, k: u8) -> Night
-    ensures { result ≡ begun n k }
+// The place of a pair's read position. That p is below 16 is required and no type: a `Command` may hold any number, and one for posts would be made anew at each call.
+fn place(p: u8, q: u8) -> usize
+    requires { (p < 16) × (q < 16) }
+    ensures { (result ≡ 16 * p + q) × (result < 256) }
 {
-    let none = opened(0, 0, 0);
-    let mut posts = [none; 16];
-    let mut p = 0;
-    while p < 16 {
-        let post = opened(n, k, p as u8);
-        posts[p] = post;
-        p += 1;
-    }
-    Night {
-        posts,
-        sent: [frame::BLANK; 256],
-        count: 0,
-        read: [0; 256],
-    }
+    16 * p as usize + q as usize
 }
 
-// The place of the first message of post p from place i on.
-fn seek(sent: [Message; 256], i: usize, n: usize, p: u8) -> usize
-    requires { n ≤ 256 }
-    ensures { result ≡ seek p i (drop i (take n sent)) }
-{
-    let mut j = i;
-    while j < n {
-        let m = sent[j];
-        if m.sender == p {
-            return j;
+impl Night {
+    pub(crate) fn begin(n: u8, k: u8) -> Self
+        ensures { result ≡ begun n k }
+    {
+        Self {
+            posts: array::from_fn(|p| opened(n, k, p as u8)),
+            sent: [frame::BLANK; 256],
+            count: 0,
+            read: [0; 256],
         }
-        j += 1;
     }
-    256
-}
 
-// The place of the next message of p, from place `read` on.
-fn next(sent: [Message; 256], count: u16, read: u16, p: u8) -> usize
-    ensures { result ≡ seek p read (drop read (take count sent)) }
-{
-    let n = count as usize;
-    if n <= 256 {
-        return seek(sent, read as usize, n, p);
+    // The place of the next message of p that q has not accepted.
+    fn next(&self, p: u8, q: u8) -> Option<usize>
+        requires { (p < 16) × (q < 16) }
+        ensures place { unwrap_or result 256 ≡ next_of self.now p q }
+        ensures within { IfSome result (λ i. i < 256) }
+    {
+        let read = self.read[place(p, q)] as usize;
+        self.sent
+            .iter()
+            .take(self.count as usize)
+            .skip(read)
+            .position(|m| m.sender == p)
+            .map(|i| read + i)
     }
-    seek(sent, read as usize, 256, p)
-}
 
-fn refused(post: Post, sent: [Message; 256], count: u16, read: u16, number: u8) -> Change
-    ensures { (at pair : ℕ) → Changes (λ s. refused s number) at pair post sent count read result }
-{
-    let message = sent[0];
-    Change {
-        post,
-        to: 0,
-        message,
-        count,
-        read,
-        number,
-        granted: false,
+    // Post p's record is the one handed back, and what was written is sent, where there is a place.
+    #[tactic(auto, unfolding(crate::specs::Night::handed_back))]
+    fn hand_back(&mut self, p: u8, answer: Answer, buf: &[u8]) -> Result<bool, Refusal>
+        requires { p < 16 }
+        ensures { giving self.new result ≡ answered (handed_back self.old p (heard answer buf.now)) (heard answer buf.now) }
+    {
+        self.posts[p as usize] = answer.post;
+        let marks = answer.outcome?;
+        if marks.wrote && self.count < 256 {
+            self.sent[self.count as usize] = frame::split(buf).message;
+            self.count += 1;
+        }
+        Ok(marks.granted)
     }
-}
 
-// What was written is sent, where there is a place.
-fn sends(wrote: bool, count: u16) -> bool
-    ensures { (result ≡ (wrote && ltb count 256)) × (result ≡ true → count < 256) }
-{
-    if !wrote {
-        return false;
+    // A call on post p's record: zero bytes are lent to it, as many as a frame has.
+    fn call<F: FnOnce(Post, &mut [u8]) -> Answer>(&mut self, p: u8, f: F) -> Result<bool, Refusal>
+        requires within { p < 16 }
+        requires any { F.IsAlwaysCallable f }
+        ensures { (post : Post) × (buf after : _) × (a : Answer) × (post ≡ post_of self.old p) × (buf.now ≡ lent) × F.post f post buf a after
+            × (giving self.new result ≡ answered (handed_back self.old p (heard a after.now)) (heard a after.now)) }
+    {
+        let mut buf = [0u8; frame::SIZE];
+        let answer = f(self.posts[p as usize], &mut buf);
+        self.hand_back(p, answer, &buf)
     }
-    count < 256
-}
 
-// After a call, with this read position from then on.
-fn after(sent: [Message; 256], count: u16, read: u16, called: Called) -> Change
-    ensures { (at pair old : ℕ) (post : Post) → Changes (λ s. answered (read_to (handed_back s at called) pair read) called) at pair post sent count old result }
-{
-    let a = called.answer;
-    let post = a.post;
-    if sends(a.wrote, count) {
-        let message = called.message;
-        return Change {
-            post,
-            to: count as usize,
-            message,
-            count: count + 1,
-            read,
-            number: a.number,
-            granted: a.granted,
+    // What the command gives back: its refusal, or whether it brought the grant.
+    pub(crate) fn run(&mut self, c: Option<Command>) -> Result<bool, Refusal>
+        requires { Safe c }
+        ensures { giving self.new result ≡ ran self.old c }
+    {
+        let Some(c) = c else {
+            return Err(Refusal::Command);
         };
-    }
-    let message = sent[0];
-    Change {
-        post,
-        to: 0,
-        message,
-        count,
-        read,
-        number: a.number,
-        granted: a.granted,
-    }
-}
-
-fn offer(post: Post, sent: [Message; 256], count: u16, read: u16, i: usize) -> Change
-    requires { i < 256 }
-    ensures { (p q : ℕ) → Changes (λ s. offered s p q i) q (16 * p + q) post sent count read result }
-{
-    let m = sent[i];
-    let called = receive(post, m);
-    let a = called.answer;
-    if a.number == 0 {
-        return after(sent, count, (i + 1) as u16, called);
-    }
-    after(sent, count, read, called)
-}
-
-// The post that a command calls.
-pub(crate) fn callee(c: Command) -> usize
-    requires { Safe c }
-    ensures { (result ≡ callee_of c) × (result < 16) }
-{
-    match c {
-        Command::Take(p) => p as usize,
-        Command::Return(p) => p as usize,
-        Command::Deliver(_, q) => q as usize,
-        Command::Unknown => 0,
-    }
-}
-
-// The place of its read position.
-pub(crate) fn pair(c: Command) -> usize
-    requires { Safe c }
-    ensures { (result ≡ pair_of c) × (result < 256) }
-{
-    match c {
-        Command::Take(_) => 0,
-        Command::Return(_) => 0,
-        Command::Deliver(p, q) => 16 * p as usize + q as usize,
-        Command::Unknown => 0,
-    }
-}
-
-pub(crate) fn run(c: Command, post: Post, sent: [Message; 256], count: u16, read: u16) -> Change
-    ensures { Changes (λ s. ran s c) (callee_of c) (pair_of c) post sent count read result }
-{
-    match c {
-        Command::Take(_) => after(sent, count, read, take(post)),
-        Command::Return(_) => after(sent, count, read, give_back(post)),
-        Command::Deliver(p, _) => {
-            let i = next(sent, count, read, p);
-            if 256 <= i {
-                return refused(post, sent, count, read, 15);
+        match c {
+            Command::Take(p) => self.call(p, |post, buf| post.take(buf)),
+            Command::Return(p) => self.call(p, |post, buf| post.give_back(buf)),
+            Command::Deliver(p, q) => {
+                let Some(i) = self.next(p, q) else {
+                    return Err(Refusal::Nothing);
+                };
+                let mut bytes = [0u8; frame::SIZE];
+                // in a bench of any bytes it may be no message: what is offered then is zeros
+                let _ = frame::write(&mut bytes, 0, self.sent[i]);
+                let granted = self.call(q, |post, buf| post.receive(&bytes, buf))?;
+                self.read[place(p, q)] = (i + 1) as u16;
+                Ok(granted)
             }
-            offer(post, sent, count, read, i)
         }
-        Command::Unknown => refused(post, sent, count, read, 16),
     }
 }

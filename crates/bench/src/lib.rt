@@ -5,23 +5,24 @@ mod commands;
 mod lines;
 mod writing;
 
-ghost use Rattle.std.specs.Prelude.{◌≡◌, false, not, ◌&&◌, ◌||◌, ◌≤◌, ◌<◌, ◌+◌, leb, ltb, eqb, length};
-ghost use Rattle.laws.specs.Below.{one?};
-ghost use Rattle.text.specs.Puts.{Lays};
-ghost use Rattle.bench.specs.Bench.{in_phases, closing, unfed, headed, stops, asked, turned, last_piece, feeding, Feeds, finished, finished_bytes, Ends, Turns};
+ghost use Rattle.std.specs.Prelude.{◌≡◌, ◌<◌, length};
+ghost use Rattle.bench.specs.Bench.{in_phases, closing, unfed, is_over, headed, answers, stops, turned, stepped, last_piece, feeding, Feeds, finished, finished_bytes, Ends};
+ghost use Rattle.bench.specs.Inside.{Writes, Room, Turns};
 
-use frame::Message;
+use frame::{Message, Refusal};
 pub use lines::{Command, Header};
 use post::Post;
+use writing::Page;
 
-// The line being read: its first 8 bytes, and how many of these there are. No text of a command or header has 8.
+// The line being read: its first 8 bytes, and how many of these there are, since there is no heap. No text of a command or header has 8.
+// Every value is taken, of a length above 8 too: a narrower type would ask more of callers.
 #[derive(Clone, Copy)]
 pub struct Line {
     pub bytes: [u8; 8],
     pub len: u8,
 }
 
-// A night: the records, the messages sent, and for each pair of posts (p, q), at 16 * p + q, how far q has read of them.
+// A night: the records, the messages sent, and for each pair of posts (p, q), at 16 * p + q, how far q has read of them: arrays of 01's sizes, since there is no heap.
 #[derive(Clone, Copy)]
 pub struct Night {
     pub posts: [Post; 16],
@@ -39,7 +40,7 @@ pub struct Bench {
     pub places: u8,
     // how many lines of commands are answered
     pub number: u16,
-    // 0 the header is read, 1 commands are; from 2 on it is over
+    // 0 the header is read, 1 commands are; from 2 on it is over. A number, since an enum would ask more of who makes a bench.
     pub mode: u8,
     pub line: Line,
 }
@@ -47,102 +48,21 @@ pub struct Bench {
 // What feeding hands back.
 #[derive(Clone, Copy)]
 pub struct Fed {
-    pub bench: Bench,
     pub used: usize,
     pub written: usize,
     pub over: bool,
 }
 
-// What the end of the input came to; not done where there was not enough room.
-#[derive(Clone, Copy)]
-pub struct Finished {
-    pub written: usize,
-    pub done: bool,
-}
-
-// The bench after a whole line, and the place after what it wrote.
-#[derive(Clone, Copy)]
-pub(crate) struct Turned {
-    pub bench: Bench,
-    pub at: usize,
-}
-
-fn one_in(k: u8, phase: u8, lo: u8, hi: u8) -> u8
-    requires { k < 255 }
-    ensures { result ≡ k + one? (leb lo phase && leb phase hi) }
-{
-    if phase < lo {
-        return k;
+impl Night {
+    // How many records are in phases lo to hi.
+    fn in_phases(&self, lo: u8, hi: u8) -> u8
+        ensures { result ≡ in_phases lo hi self.now.posts }
+    {
+        self.posts
+            .iter()
+            .filter(|p| lo <= p.phase && p.phase <= hi)
+            .count() as u8
     }
-    if hi < phase {
-        return k;
-    }
-    k + 1
-}
-
-// How many records are in phases lo to hi.
-fn in_phases(posts: [Post; 16], lo: u8, hi: u8) -> u8
-    ensures { result ≡ in_phases lo hi posts }
-{
-    let mut k = 0u8;
-    let mut i = 0;
-    while i < 16 {
-        let p = posts[i];
-        k = one_in(k, p.phase, lo, hi);
-        i += 1;
-    }
-    k
-}
-
-fn last_line(night: Night, places: u8, out: &mut [u8], at: usize) -> usize
-    ensures { Lays out.old out.new at (closing places night) result }
-{
-    let posts = night.posts;
-    let held = in_phases(posts, Post::HOLDING, Post::HOLDING);
-    let waiting = in_phases(posts, Post::ASKED, Post::NUMBERED);
-    writing::last(out, at, places, held, waiting)
-}
-
-fn is_stop(mode: u8, room: usize) -> bool
-    ensures { result ≡ (leb 2 mode || ltb room 64) }
-{
-    if 2 <= mode {
-        return true;
-    }
-    room < Bench::ROOM
-}
-
-// The byte is one of a line that goes on.
-fn is_plain(mode: u8, number: u16, b: u8) -> bool
-    ensures { result ≡ (not (eqb b 10) && (eqb mode 0 || ltb number 256)) }
-{
-    if b == 10 {
-        return false;
-    }
-    if mode == 0 {
-        return true;
-    }
-    number < Bench::COMMANDS
-}
-
-// A line of commands is whole.
-fn is_asked(mode: u8, number: u16) -> bool
-    ensures { result ≡ (not (eqb mode 0) && ltb number 256) }
-{
-    if mode == 0 {
-        return false;
-    }
-    number < Bench::COMMANDS
-}
-
-// A line is left, or even an empty one counts.
-fn is_pending(mode: u8, len: u8) -> bool
-    ensures { result ≡ (eqb mode 0 || not (eqb len 0)) }
-{
-    if mode == 0 {
-        return true;
-    }
-    len != 0
 }
 
 impl Bench {
@@ -152,182 +72,154 @@ impl Bench {
     // So many lines of commands are answered.
     pub const COMMANDS: u16 = 256;
 
+    #[tactic(auto, unfolding(crate::specs::Bench::unfed))]
     pub fn new() -> Self
         ensures { result ≡ unfed }
     {
         Self {
-            night: commands::begin(0, 0),
+            night: Night::begin(0, 0),
             posts: 0,
             places: 0,
             number: 0,
             mode: 0,
-            line: lines::empty(),
+            line: Line::empty(),
         }
     }
 
-    fn head(mut self, out: &mut [u8], at: usize) -> Turned
-        requires { at + 64 ≤ length out.old }
-        ensures { Turns (headed self) out.old out.new at result }
+    fn is_over(&self) -> bool
+        ensures { result ≡ is_over self.now }
     {
-        let line = self.line;
-        let h = lines::read_header(line);
-        if h.posts == 0 {
+        2 <= self.mode
+    }
+
+    #[tactic(auto, unfolding(crate::specs::Bench::closing))]
+    fn last_line(&self, page: &mut Page)
+        ensures { Writes page.old page.new (closing self.now.places self.now.night) }
+    {
+        let held = self.night.in_phases(Post::HOLDING, Post::HOLDING);
+        let waiting = self.night.in_phases(Post::ASKED, Post::NUMBERED);
+        page.last(self.places, held, waiting);
+    }
+
+    // The first line is whole.
+    #[tactic(auto, unfolding(crate::specs::Bench::headed))]
+    fn head(&mut self, page: &mut Page)
+        requires { Room page.old }
+        ensures { Turns (headed self.old) self.new page.old page.new }
+    {
+        let Some(h) = lines::read_header(&self.line) else {
             self.mode = 2;
-            let next = writing::bad_header(out, at);
-            return Turned {
-                bench: self,
-                at: next,
-            };
-        }
-        let bench = Self {
-            night: commands::begin(h.posts, h.places),
+            page.bad_header();
+            return;
+        };
+        *self = Self {
+            night: Night::begin(h.posts, h.places),
             posts: h.posts,
             places: h.places,
             number: 0,
             mode: 1,
-            line: lines::empty(),
+            line: Line::empty(),
         };
-        Turned { bench, at }
     }
 
-    fn stop(mut self, out: &mut [u8], at: usize) -> Turned
-        requires { at + 64 ≤ length out.old }
-        ensures { Turns (stops self) out.old out.new at result }
+    // A line of commands is whole.
+    fn answer(&mut self, page: &mut Page)
+        requires { Room page.old × (self.old.number < 256) }
+        ensures { Turns (answers self.old) self.new page.old page.new }
     {
-        let night = self.night;
-        self.mode = 2;
-        let next = writing::answer(out, at, 257, Command::Unknown, 17, false);
-        let end = last_line(night, self.places, out, next);
-        Turned {
-            bench: self,
-            at: end,
-        }
+        let c = lines::read_command(&self.line, self.posts);
+        let outcome = self.night.run(c);
+        self.number += 1;
+        self.mode = 1;
+        self.line = Line::empty();
+        page.answer(self.number, c, outcome);
     }
 
-    // The first line is whole, or line 257 has a byte.
-    fn turn(self, out: &mut [u8], at: usize) -> Turned
-        requires { (at + 64 ≤ length out.old) × (asked self ≡ false) }
-        ensures { Turns (turned self) out.old out.new at result }
+    // Line 257 has a byte.
+    fn stop(&mut self, page: &mut Page)
+        requires { Room page.old }
+        ensures { Turns (stops self.old) self.new page.old page.new }
+    {
+        self.mode = 2;
+        page.answer(257, None, Err(Refusal::End));
+        self.last_line(page);
+    }
+
+    #[tactic(auto, unfolding(crate::specs::Bench::turned))]
+    fn turn(&mut self, page: &mut Page)
+        requires { Room page.old }
+        ensures { Turns (turned self.old) self.new page.old page.new }
     {
         if self.mode == 0 {
-            return self.head(out, at);
+            self.head(page);
+        } else if self.number < Self::COMMANDS {
+            self.answer(page);
+        } else {
+            self.stop(page);
         }
-        self.stop(out, at)
+    }
+
+    #[tactic(auto, unfolding(crate::specs::Bench::stepped, crate::specs::Bench::plain))]
+    fn step(&mut self, b: u8, page: &mut Page)
+        requires { Room page.old }
+        ensures { Turns (stepped self.old b) self.new page.old page.new }
+    {
+        if b != b'\n' && (self.mode == 0 || self.number < Self::COMMANDS) {
+            self.line.push(b);
+        } else {
+            self.turn(page);
+        }
     }
 
     // Uses bytes as long as it is not over and there is room for what any byte can write.
-    // A command is answered here, and sets what it changes in a night that is a variable of its own: handed to a function, the night would be copied.
-    pub fn feed(self, input: &[u8], out: &mut [u8]) -> Fed
-        ensures { Feeds (feeding self input.now 0 0 out.old) result out.new }
+    pub fn feed(&mut self, input: &[u8], out: &mut [u8]) -> Fed
+        ensures { Feeds (feeding self.old input.now 0 0 out.old) self.new result out.new }
     {
-        let mut bench = self;
-        let mut night = self.night;
-        let mut used = 0;
-        let mut written = 0;
-        while used < input.len() {
-            if is_stop(bench.mode, out.len() - written) {
-                bench.night = night;
+        let mut page = Page { out, at: 0 };
+        for (used, b) in input.iter().enumerate() {
+            if self.is_over() || page.out.len() - page.at < Self::ROOM {
                 return Fed {
-                    bench,
                     used,
-                    written,
-                    over: 2 <= bench.mode,
+                    written: page.at,
+                    over: self.is_over(),
                 };
             }
-            let b = input[used];
-            let line = bench.line;
-            if is_plain(bench.mode, bench.number, b) {
-                let next = lines::push(line, b);
-                bench.line = next;
-            } else if is_asked(bench.mode, bench.number) {
-                let c = lines::read_command(line, bench.posts);
-                let at = commands::callee(c);
-                let pair = commands::pair(c);
-                let post = night.posts[at];
-                let sent = night.sent;
-                let read = night.read[pair];
-                let r = commands::run(c, post, sent, night.count, read);
-                let next = r.post;
-                let to = r.to;
-                let message = r.message;
-                let blank = lines::empty();
-                night.posts[at] = next;
-                night.sent[to] = message;
-                night.count = r.count;
-                night.read[pair] = r.read;
-                bench.number = bench.number + 1;
-                bench.mode = 1;
-                bench.line = blank;
-                written = writing::answer(out, written, bench.number, c, r.number, r.granted);
-            } else {
-                // In a bench of its own: nothing then reads the night that came in `bench`, and it is not copied.
-                let mut whole = bench;
-                whole.night = night;
-                let t = whole.turn(out, written);
-                let next = t.bench;
-                let other = next.night;
-                bench = next;
-                night = other;
-                written = t.at;
-            }
-            used += 1;
+            self.step(*b, &mut page);
         }
-        bench.night = night;
         Fed {
-            bench,
-            used,
-            written,
-            over: 2 <= bench.mode,
+            used: input.len(),
+            written: page.at,
+            over: self.is_over(),
         }
     }
 
     // The last line of the input may lack its LF.
-    fn last_piece(self, out: &mut [u8]) -> Turned
-        requires { (64 ≤ length out.old) × (self.mode < 2) }
-        ensures { Turns (last_piece self) out.old out.new 0 result }
+    #[tactic(auto, unfolding(crate::specs::Bench::last_piece))]
+    fn last_piece(&mut self, page: &mut Page)
+        requires { Room page.old }
+        ensures { Turns (last_piece self.old) self.new page.old page.new }
     {
-        let line = self.line;
-        if is_pending(self.mode, line.len) {
-            let f = self.feed(b"\n", out);
-            let bench = f.bench;
-            return Turned {
-                bench,
-                at: f.written,
-            };
+        if self.mode == 0 || self.line.len != 0 {
+            self.turn(page);
         }
-        Turned { bench: self, at: 0 }
     }
 
-    // The input has ended.
-    pub fn finish(self, out: &mut [u8]) -> Finished
+    // The input has ended. It answers how many bytes it wrote, where there was enough room.
+    pub fn finish(mut self, out: &mut [u8]) -> Option<usize>
         ensures { Ends (finished self out.old) (finished_bytes self out.old) result out.new }
     {
         if out.len() < Self::ROOM {
-            return Finished {
-                written: 0,
-                done: false,
-            };
+            return None;
         }
-        if 2 <= self.mode {
-            return Finished {
-                written: 0,
-                done: true,
-            };
+        if self.is_over() {
+            return Some(0);
         }
-        let t = self.last_piece(out);
-        let bench = t.bench;
-        let at = t.at;
-        if bench.mode != 1 {
-            return Finished {
-                written: at,
-                done: true,
-            };
+        let mut page = Page { out, at: 0 };
+        self.last_piece(&mut page);
+        if self.mode != 1 {
+            return Some(page.at);
         }
-        let night = bench.night;
-        let end = last_line(night, bench.places, out, at);
-        Finished {
-            written: end,
-            done: true,
-        }
+        self.last_line(&mut page);
+        Some(page.at)
     }
 }

@@ -1,11 +1,9 @@
 // Lines: the one being read, and what it says.
-ghost use Rattle.std.specs.Prelude.{◌≡◌, ◌≤◌, ◌<◌, get_or};
-ghost use Rattle.bench.specs.Text.{text};
-ghost use Rattle.laws.specs.Search.{same};
-ghost use Rattle.bench.specs.Lines.{empty, pushed, kept, inside, in_range_for, command_of, header_text, header_of};
-ghost use Rattle.bench.specs.Inside.{digit, number_at, after_at, guess_header, guess_command, header_fits};
+ghost use Rattle.std.specs.Prelude.{◌≡◌, position};
+ghost use Rattle.bench.specs.Lines.{empty, pushed, kept, inside, in_range_for, command_of, header_of};
+ghost use Rattle.bench.specs.Inside.{digit_of, number_of, is_space, pair_of_numbers, parsed_command, parsed_header, header_fits};
 
-use crate::{Line, writing};
+use crate::Line;
 
 // What a line asks for.
 #[derive(Clone, Copy)]
@@ -14,212 +12,139 @@ pub enum Command {
     Return(u8),
     // offer the second post the next message of the first
     Deliver(u8, u8),
-    // no command
-    Unknown,
 }
 
-// What a first line says; zeros where it is no header.
+// What a first line says.
 #[derive(Clone, Copy)]
 pub struct Header {
     pub posts: u8,
     pub places: u8,
 }
 
-pub(crate) fn empty() -> Line
-    ensures { result ≡ empty }
-{
-    Line {
-        bytes: [0; 8],
-        len: 0,
+impl Line {
+    #[tactic(auto, unfolding(crate::specs::Lines::empty))]
+    pub(crate) fn empty() -> Self
+        ensures { result ≡ empty }
+    {
+        Self {
+            bytes: [0; 8],
+            len: 0,
+        }
+    }
+
+    #[tactic(auto, unfolding(crate::specs::Lines::pushed))]
+    pub(crate) fn push(&mut self, b: u8)
+        ensures { self.new ≡ pushed self.old b }
+    {
+        if self.len < 8 {
+            self.bytes[usize::from(self.len)] = b;
+            self.len += 1;
+        }
+    }
+
+    fn kept(&self) -> &[u8]
+        ensures { result.now ≡ kept self.now }
+    {
+        &self.bytes[..usize::from(self.len.min(8))]
     }
 }
 
-pub(crate) fn push(mut line: Line, b: u8) -> Line
-    ensures { result ≡ pushed line b }
-{
-    let at = line.len as usize;
-    if at < 8 {
-        line.bytes[at] = b;
-        line.len = line.len + 1;
-    }
-    line
-}
-
-fn byte_at(line: Line, i: usize) -> u8
-    ensures { result ≡ get_or (kept line) i 0 }
-{
-    let bytes = line.bytes;
-    if line.len as usize <= i {
-        return 0;
-    }
-    if 8 <= i {
-        return 0;
-    }
-    bytes[i]
-}
-
-fn digit(b: u8) -> u8
-    ensures { (result ≡ digit b) × (result ≤ 10) }
-{
-    if b < 48 {
-        return 10;
-    }
-    if 57 < b {
-        return 10;
-    }
-    b - 48
-}
-
-// One or two digits from i on: whether they are a number in range is tested later, by its text.
-fn number_at(line: Line, i: usize) -> u8
-    requires { i < 8 }
-    ensures { result ≡ number_at (kept line) i }
-{
-    let a = digit(byte_at(line, i));
-    let b = digit(byte_at(line, i + 1));
-    if b < 10 {
-        return a * 10 + b;
-    }
-    a
-}
-
-// Where the number after them starts.
-fn after_at(line: Line, i: usize) -> usize
-    requires { i < 4 }
-    ensures { (result ≡ after_at (kept line) i) × (result < 8) }
-{
-    let b = digit(byte_at(line, i + 1));
-    if b < 10 {
-        return i + 3;
-    }
-    i + 2
-}
-
-// The one header that the line can be.
-fn guess_header(line: Line) -> Header
-    ensures { result ≡ guess_header (kept line) }
-{
-    let at = after_at(line, 0);
-    Header {
-        posts: number_at(line, 0),
-        places: number_at(line, at),
+impl Header {
+    #[tactic(auto, unfolding(crate::specs::Inside::header_fits))]
+    fn fits(self) -> bool
+        ensures { result ≡ header_fits self }
+    {
+        (1..=16).contains(&self.posts) && (1..=16).contains(&self.places)
     }
 }
 
-// The one command that the line can be.
-fn guess_command(line: Line) -> Command
-    ensures { result ≡ guess_command (kept line) }
-{
-    let letter = byte_at(line, 0);
-    let p = number_at(line, 2);
-    if letter == b'T' {
-        return Command::Take(p);
-    }
-    if letter == b'R' {
-        return Command::Return(p);
-    }
-    if letter == b'D' {
-        let at = after_at(line, 2);
-        return Command::Deliver(p, number_at(line, at));
-    }
-    Command::Unknown
-}
-
+#[tactic(auto, unfolding(crate::specs::Lines::inside))]
 fn inside(n: u8, p: u8) -> bool
     ensures { result ≡ inside n p }
 {
-    if n <= p {
-        return false;
-    }
-    p < 16
+    p < n && p < 16
 }
 
-fn in_range(n: u8, c: Command) -> bool
-    ensures { result ≡ in_range_for n c }
-{
-    match c {
-        Command::Take(p) => inside(n, p),
-        Command::Return(p) => inside(n, p),
-        Command::Deliver(p, q) => {
-            if !inside(n, p) {
-                return false;
-            }
-            if !inside(n, q) {
-                return false;
-            }
-            p != q
-        }
-        Command::Unknown => false,
-    }
-}
-
-fn header_fits(h: Header) -> bool
-    ensures { result ≡ header_fits h }
-{
-    if h.posts < 1 {
-        return false;
-    }
-    if 16 < h.posts {
-        return false;
-    }
-    if h.places < 1 {
-        return false;
-    }
-    h.places <= 16
-}
-
-// The line is this text.
-fn is_text(line: Line, w: &[u8]) -> bool
-    ensures { result ≡ same w.now (kept line) }
-{
-    let bytes = line.bytes;
-    let n = line.len as usize;
-    if n <= 8 {
-        return check::same(w, &bytes[..n]);
-    }
-    check::same(w, &bytes)
-}
-
-fn is_command(line: Line, c: Command) -> bool
-    ensures { result ≡ same (text c) (kept line) }
-{
-    let mut bytes = [0u8; 9];
-    let n = writing::command(&mut bytes, 0, c);
-    is_text(line, &bytes[..n])
-}
-
-fn is_header(line: Line, h: Header) -> bool
-    ensures { result ≡ same (header_text h) (kept line) }
-{
-    let mut bytes = [0u8; 7];
-    let n = writing::pair(&mut bytes, 0, h.posts, h.places);
-    is_text(line, &bytes[..n])
-}
-
-pub(crate) fn read_command(line: Line, n: u8) -> Command
-    ensures { result ≡ command_of n (kept line) }
-{
-    let c = guess_command(line);
-    if !in_range(n, c) {
-        return Command::Unknown;
-    }
-    if is_command(line, c) {
-        return c;
-    }
-    Command::Unknown
-}
-
-pub(crate) fn read_header(line: Line) -> Header
-    ensures { result ≡ header_of (kept line) }
-{
-    let h = guess_header(line);
-    if header_fits(h) {
-        if is_header(line, h) {
-            return h;
+impl Command {
+    #[tactic(auto, unfolding(crate::specs::Lines::in_range_for))]
+    fn is_in_range(self, n: u8) -> bool
+        ensures { result ≡ in_range_for n self }
+    {
+        match self {
+            Self::Take(p) | Self::Return(p) => inside(n, p),
+            Self::Deliver(p, q) => inside(n, p) && inside(n, q) && p != q,
         }
     }
-    Header {
-        posts: 0,
-        places: 0,
+}
+
+fn digit(b: u8) -> Option<u8>
+    ensures { result ≡ digit_of b }
+{
+    match b {
+        b'0'..=b'9' => Some(b - b'0'),
+        _ => None,
     }
+}
+
+// A number below 20, as all are that a line can have.
+#[tactic(auto, unfolding(crate::specs::Inside::number_of))]
+fn number(digits: &[u8]) -> Option<u8>
+    ensures { result ≡ number_of digits.now }
+{
+    match digits {
+        [b] => digit(*b),
+        [b'1', b] => Some(10 + digit(*b)?),
+        _ => None,
+    }
+}
+
+// By itself: before a `?` a proof would not know what `position` says.
+fn first_space(text: &[u8]) -> Option<usize>
+    ensures { result ≡ position is_space text.now }
+{
+    text.iter().position(|b| *b == b' ')
+}
+
+// Two numbers and a space between.
+#[tactic(auto, unfolding(crate::specs::Inside::pair_of_numbers))]
+fn pair(text: &[u8]) -> Option<(u8, u8)>
+    ensures { result ≡ pair_of_numbers text.now }
+{
+    let at = first_space(text)?;
+    Some((number(&text[..at])?, number(&text[at + 1..])?))
+}
+
+#[tactic(auto, unfolding(crate::specs::Inside::parsed_command))]
+fn parse_command(text: &[u8]) -> Option<Command>
+    ensures { result ≡ parsed_command text.now }
+{
+    match text {
+        [b'T', b' ', p @ ..] => Some(Command::Take(number(p)?)),
+        [b'R', b' ', p @ ..] => Some(Command::Return(number(p)?)),
+        [b'D', b' ', both @ ..] => {
+            let (p, q) = pair(both)?;
+            Some(Command::Deliver(p, q))
+        }
+        _ => None,
+    }
+}
+
+#[tactic(auto, unfolding(crate::specs::Inside::parsed_header))]
+fn parse_header(text: &[u8]) -> Option<Header>
+    ensures { result ≡ parsed_header text.now }
+{
+    let (posts, places) = pair(text)?;
+    Some(Header { posts, places })
+}
+
+pub(crate) fn read_command(line: &Line, n: u8) -> Option<Command>
+    ensures { result ≡ command_of n (kept line.now) }
+{
+    parse_command(line.kept()).filter(|c| c.is_in_range(n))
+}
+
+pub(crate) fn read_header(line: &Line) -> Option<Header>
+    ensures { result ≡ header_of (kept line.now) }
+{
+    parse_header(line.kept()).filter(|h| h.fits())
 }

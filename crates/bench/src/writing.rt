@@ -1,103 +1,114 @@
-// The lines that the bench writes, and the texts that lines are compared with, put into a lent buffer from a place on.
-ghost use Rattle.std.specs.Prelude.{◌≡◌, cond, [], ◌∷◌, ◌++◌, ◌<◌};
-ghost use Rattle.text.specs.Puts.{Lays};
-ghost use Rattle.bench.specs.Text.{decimal, text, answer_line, bad_header, last_line};
+// The lines that the bench writes, put into a lent buffer from a place on.
+// Not by `write!`: std promises a text where the result is Ok, and nowhere that it is.
+ghost use Rattle.std.specs.Prelude.{[], ◌∷◌, ◌<◌};
+ghost use Rattle.frame.specs.Refusal.{number_in};
+ghost use Rattle.bench.specs.Inside.{Writes, granted_in};
+ghost use Rattle.bench.specs.Text.{decimal, text, shown, answer_line, bad_header, last_line};
 
 use crate::lines::Command;
+use frame::Refusal;
 
-// A number below 1000.
-fn number(out: &mut [u8], at: usize, n: u16) -> usize
-    requires { n < 1000 }
-    ensures { Lays out.old out.new at (decimal n) result }
-{
-    text::number(out, at, n as u64)
+// A lent buffer, and the place where the next text is put.
+#[derive(Drop)]
+pub(crate) struct Page<'a> {
+    pub out: &'a mut [u8],
+    pub at: usize,
 }
 
-// A letter, a space and a number.
-fn lettered(out: &mut [u8], at: usize, letter: u8, p: u8) -> usize
-    ensures { Lays out.old out.new at (letter ∷ 32 ∷ decimal p) result }
-{
-    let a = text::byte(out, at, letter);
-    let b = text::byte(out, a, b' ');
-    number(out, b, p as u16)
-}
+impl Page<'_> {
+    fn byte(&mut self, b: u8)
+        ensures { Writes self.old self.new (b ∷ []) }
+    {
+        self.at = text::byte(self.out, self.at, b);
+    }
 
-// Two numbers and a space between.
-pub(crate) fn pair(out: &mut [u8], at: usize, p: u8, q: u8) -> usize
-    ensures { Lays out.old out.new at (decimal p ++ 32 ∷ decimal q) result }
-{
-    let a = number(out, at, p as u16);
-    let b = text::byte(out, a, b' ');
-    number(out, b, q as u16)
-}
+    fn word(&mut self, w: &[u8])
+        ensures { Writes self.old self.new w.now }
+    {
+        self.at = text::word(self.out, self.at, w);
+    }
 
-pub(crate) fn command(out: &mut [u8], at: usize, c: Command) -> usize
-    ensures { Lays out.old out.new at (text c) result }
-{
-    match c {
-        Command::Take(p) => lettered(out, at, b'T', p),
-        Command::Return(p) => lettered(out, at, b'R', p),
-        Command::Deliver(p, q) => {
-            let a = text::byte(out, at, b'D');
-            let b = text::byte(out, a, b' ');
-            pair(out, b, p, q)
+    // Below 1000, as the definition `decimal` has it: required and no type, which would be made anew at each call.
+    fn number(&mut self, n: u64)
+        requires { n < 1000 }
+        ensures { Writes self.old self.new (decimal n) }
+    {
+        self.at = text::number(self.out, self.at, n);
+    }
+
+    // A letter, a space and a number.
+    fn lettered(&mut self, letter: u8, p: u8)
+        ensures { Writes self.old self.new (letter ∷ 32 ∷ decimal p) }
+    {
+        self.byte(letter);
+        self.byte(b' ');
+        self.number(u64::from(p));
+    }
+
+    fn command(&mut self, c: Command)
+        ensures { Writes self.old self.new (text c) }
+    {
+        match c {
+            Command::Take(p) => self.lettered(b'T', p),
+            Command::Return(p) => self.lettered(b'R', p),
+            Command::Deliver(p, q) => {
+                self.lettered(b'D', p);
+                self.byte(b' ');
+                self.number(u64::from(q));
+            }
         }
-        Command::Unknown => text::byte(out, at, b'?'),
     }
-}
 
-fn mark(granted: bool) -> u8
-    ensures { result ≡ cond granted 71 45 }
-{
-    if granted {
-        return b'G';
+    // What a line asks for; `?` where that is no command.
+    fn asked(&mut self, c: Option<Command>)
+        ensures { Writes self.old self.new (shown c) }
+    {
+        match c {
+            Some(c) => self.command(c),
+            None => self.byte(b'?'),
+        }
     }
-    b'-'
-}
 
-// The rest of an answer line after the command.
-fn ending(out: &mut [u8], at: usize, refusal: u8, granted: bool) -> usize
-    ensures { Lays out.old out.new at (32 ∷ decimal refusal ++ (32 ∷ cond granted 71 45 ∷ 10 ∷ [])) result }
-{
-    let m = mark(granted);
-    let a = text::byte(out, at, b' ');
-    let b = number(out, a, refusal as u16);
-    let d = text::byte(out, b, b' ');
-    let e = text::byte(out, d, m);
-    text::byte(out, e, b'\n')
-}
+    // The refusal is the number that is printed.
+    fn line(&mut self, n: u16, c: Option<Command>, refusal: u8, granted: bool)
+        requires { n < 1000 }
+        ensures { Writes self.old self.new (answer_line n c refusal granted) }
+    {
+        self.number(u64::from(n));
+        self.byte(b' ');
+        self.asked(c);
+        self.byte(b' ');
+        self.number(u64::from(refusal));
+        self.byte(b' ');
+        self.byte(if granted { b'G' } else { b'-' });
+        self.byte(b'\n');
+    }
 
-pub(crate) fn answer(
-    out: &mut [u8],
-    at: usize,
-    n: u16,
-    c: Command,
-    refusal: u8,
-    granted: bool,
-) -> usize
-    requires { n < 1000 }
-    ensures { Lays out.old out.new at (answer_line n c refusal granted) result }
-{
-    let a = number(out, at, n);
-    let b = text::byte(out, a, b' ');
-    let d = command(out, b, c);
-    ending(out, d, refusal, granted)
-}
+    pub(crate) fn answer(&mut self, n: u16, c: Option<Command>, outcome: Result<bool, Refusal>)
+        requires { n < 1000 }
+        ensures { Writes self.old self.new (answer_line n c (number_in outcome) (granted_in outcome)) }
+    {
+        match outcome {
+            Ok(granted) => self.line(n, c, 0, granted),
+            Err(refusal) => self.line(n, c, refusal.number(), false),
+        }
+    }
 
-pub(crate) fn bad_header(out: &mut [u8], at: usize) -> usize
-    ensures { Lays out.old out.new at bad_header result }
-{
-    text::word(out, at, b"bad header\n")
-}
+    pub(crate) fn bad_header(&mut self)
+        ensures { Writes self.old self.new bad_header }
+    {
+        self.word(b"bad header\n");
+    }
 
-pub(crate) fn last(out: &mut [u8], at: usize, places: u8, held: u8, waiting: u8) -> usize
-    ensures { Lays out.old out.new at (last_line places held waiting) result }
-{
-    let a = text::word(out, at, b"places ");
-    let b = number(out, a, places as u16);
-    let d = text::word(out, b, b" held ");
-    let e = number(out, d, held as u16);
-    let f = text::word(out, e, b" waiting ");
-    let g = number(out, f, waiting as u16);
-    text::byte(out, g, b'\n')
+    pub(crate) fn last(&mut self, places: u8, held: u8, waiting: u8)
+        ensures { Writes self.old self.new (last_line places held waiting) }
+    {
+        self.word(b"places ");
+        self.number(u64::from(places));
+        self.word(b" held ");
+        self.number(u64::from(held));
+        self.word(b" waiting ");
+        self.number(u64::from(waiting));
+        self.byte(b'\n');
+    }
 }

@@ -12,7 +12,8 @@ use Rattle.frame.specs.declared.Message.{Message}
 use Rattle.frame.specs.Message.{msg, ack_kind, last_counter, stamp}
 use Rattle.frame.specs.Frame.{over, fields_of}
 use Rattle.calls.specs.declared.Start.{Start}
-use Rattle.calls.specs.Own.{Own, row_of}
+use Rattle.calls.specs.declared.Own.{Own}
+use Rattle.calls.specs.Own.{row_of}
 use Rattle.calls.specs.View.{View, acks}
 use Rattle.calls.specs.Table.{own_tests, receive_tests}
 use Rattle.calls.specs.Replies.{own_call, receive_call, told, Answer, refused}

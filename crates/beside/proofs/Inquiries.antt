@@ -18,8 +18,7 @@ use Rattle.queue.proofs.Granted.{latest_in}
 use Rattle.queue.proofs.Phases.{asked-latest}
 use Rattle.queue.proofs.Waiting.{waits_latest, latest_waits}
 use Rattle.queue.proofs.Fitting.{Fitting}
-use Rattle.post.specs.declared.Value.{Value}
-use Rattle.post.specs.declared.Missing.{Missing}
+use Rattle.post.specs.Calls.{ValueTold, MissingTold}
 use Rattle.post.specs.Sound.{sound}
 use Rattle.post.specs.Calls as post
 use Rattle.post.proofs.Own.Takes.{stamp_of_own}
@@ -36,7 +35,7 @@ module _ (st : Start) (q : Queue) (k : Fitting st q) (s : T (sound (image st q))
   unfolding on_record on_queue post.valued value
   value_same =
       let e : post.valued (image st q) ≡ record { number = 0; value = value st q } = rw (is_true (sound (image st q)) s) (unfold image in refl) in
-      record { next = refl; reply = ap (λ (v : Value). worth v.number v.value) e }
+      record { next = refl; reply = ap (λ (v : ValueTold). worth v.number v.value) e }
 
   -- the stamp of the own take that waits
   own_stamp_lem : T (eqb (phase st q) 1) → post.own_stamp st.own (waiting st q) ≡ stamp (latest st q)
@@ -72,4 +71,4 @@ module _ (st : Start) (q : Queue) (k : Fitting st q) (s : T (sound (image st q))
       let e : post.missed (image st q) ≡ record { number = 0; set = bits_to st.posts (lacks st q); count = count_to st.posts (lacks st q) } =
       rw (is_true (sound (image st q)) s, set_same, count_same)
       in
-      record { next = refl; reply = ap (λ (m : Missing). lacking m.number m.set m.count) e }
+      record { next = refl; reply = ap (λ (m : MissingTold). lacking m.number m.set m.count) e }

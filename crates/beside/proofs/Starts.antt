@@ -11,7 +11,7 @@ use Rattle.queue.specs.Queue.{clock, last, settled, waiting, latest, phase, orde
 use Rattle.calls.specs.Replies.{Call, own_call, receive_call, value_call, missing_call, after, replies}
 use Rattle.queue.proofs.Fitting.{Fitting, fitting-empty}
 use Rattle.post.specs.declared.Post.{Post}
-use Rattle.post.specs.declared.Started.{Started}
+use Rattle.post.specs.Calls.{StartTold}
 use Rattle.post.specs.Record.{fresh}
 use Rattle.post.specs.Sound.{number_rules, sound}
 use Rattle.post.specs.Calls as post
@@ -27,7 +27,7 @@ zero = fresh (starting 0 0 0 0)
 
 -- the record by whether the numbers are in range
 abbrev either : Start → Bool → Post
-either st b = (cond {A = Started} b (record { post = fresh st; number = 0 }) (record { post = zero; number = 1 })).post
+either st b = (cond {A = StartTold} b (record { post = fresh st; number = 0 }) (record { post = zero; number = 1 })).post
 
 pub started-image : (st : Start) → Accepted st → started_post st ≡ image st []
 unfolding post.started fresh image list_from clock last settled waiting keep top phase order latest final

@@ -16,7 +16,9 @@ use Rattle.frame.specs.declared.Message.{Message}
 use Rattle.frame.specs.Message.{msg, take_kind, return_kind, ack_kind, is_take, counted, last_counter, stamp, by}
 use Rattle.calls.specs.declared.Start.{Start}
 use Rattle.queue.specs.Queue.{Queue, clock, last, heard, waiting, latest, phase, order}
-use Rattle.calls.specs.Own.{Own, taking, returning, row_of}
+use Rattle.calls.specs.declared.Own.{Own}
+use Rattle.calls.specs.declared.Own.TheVariants.{Taking, Returning}
+use Rattle.calls.specs.Own.{row_of}
 use Rattle.calls.specs.View.{View, acks}
 use Rattle.calls.proofs.Passing.{own_known, own_counted_lem}
 use Rattle.queue.specs.Calls.{view, saying, say, accept}
@@ -92,12 +94,12 @@ module _ (st : Start) (q : Queue) (k : Fitting st q) where
       }
 
   pub own_step : (o : Own) → T (eqb (phase st q) (row_of o).from) → clock q < last_counter → settle (spoken o (image st q)) ≡ image st (say st (row_of o).kind q)
-  own_step taking z l =
+  own_step Taking z l =
       let e = sym (latest-said st q g take_kind tt) in
-      said_step taking l (asked refl (take_cast e (unfold saying in tt)) (subst (λ (x : Message). Only st.own x (with_said take_kind)) e (only_said z)))
-  own_step returning z l =
+      said_step Taking l (asked refl (take_cast e (unfold saying in tt)) (subst (λ (x : Message). Only st.own x (with_said take_kind)) e (only_said z)))
+  own_step Returning z l =
       let e = sym (latest-said st q g return_kind tt) in
-      said_step returning l (idle refl refl (subst (λ (x : Message). T (not (is_take x))) e (unfold saying in tt)))
+      said_step Returning l (idle refl refl (subst (λ (x : Message). T (not (is_take x))) e (unfold saying in tt)))
 
 -- ---- a message received
 

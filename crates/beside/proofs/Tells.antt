@@ -17,7 +17,8 @@ use Rattle.laws.proofs.RisingLaws.{keep-put_no}
 use Rattle.frame.specs.declared.Message.{Message}
 use Rattle.frame.specs.Message.{ack_kind, stamp, by}
 use Rattle.frame.specs.Frame.{size, frame, over, fields_of}
-use Rattle.calls.specs.Own.{Own, row_of}
+use Rattle.calls.specs.declared.Own.{Own}
+use Rattle.calls.specs.Own.{row_of}
 use Rattle.calls.specs.Table.{own_tests, receive_tests}
 use Rattle.calls.specs.declared.Start.{Start}
 use Rattle.queue.specs.Queue.{Queue, value, lacks}

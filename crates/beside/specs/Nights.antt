@@ -3,7 +3,7 @@
 use Rattle.std.specs.Prelude.{Bool, true, false, List, [], ◌∷◌, ◌++◌, map, ◌≡◌, ℕ, ◌^◌, pos, negsuc}
 use Rattle.laws.specs.Lists.{many}
 use Rattle.frame.specs.{declared.Message.{Message}, Message.{msg, take_kind, return_kind, ack_kind, is_take, is_return, stamp_of}, Frame.{frame}}
-use Rattle.calls.specs.{declared.Start.{Start}, Start.{starting}, Own.{taking, returning}}
+use Rattle.calls.specs.{declared.Start.{Start}, Start.{starting}, declared.Own.TheVariants.{Taking, Returning}}
 use Rattle.calls.specs.Replies.{Call, own_call, receive_call, value_call, missing_call, Reply, told, worth, lacking, refusing, after, replies}
 use Rattle.post.specs.Record.{last_of, waiting_of, floor}
 use Rattle.queue.specs.{Queue.{Queue, clock, last, floor_of, settled, waiting, phase, order}, Calls.{on_queue}, Feeder.{Line, fresh, Act, own_at, deliver, buffer, run}}
@@ -44,10 +44,10 @@ ack c p = msg ack_kind p c
 
 -- calls
 abbrev takes : Call
-takes = own_call taking buffer
+takes = own_call Taking buffer
 
 abbrev returns : Call
-returns = own_call returning buffer
+returns = own_call Returning buffer
 
 abbrev receives : Message → Call
 receives m = receive_call (frame 7 m) buffer
@@ -237,13 +237,13 @@ abbrev three : Line
 three = record { posts = 3; feeder = 7; places = 1 }
 
 abbrev P5-acts : List Act
-P5-acts = own_at taking 0 ∷ own_at taking 1 ∷ deliver 0 2 ∷ deliver 1 2 ∷ deliver 1 0 ∷ deliver 2 0 ∷ []
+P5-acts = own_at Taking 0 ∷ own_at Taking 1 ∷ deliver 0 2 ∷ deliver 1 2 ∷ deliver 1 0 ∷ deliver 2 0 ∷ []
 
 -- the takes reach post 1 and its take is numbered; post 0 returns, and the return comes to post 1 and, after (2,0), to post 2
 abbrev P6-acts : List Act
 P6-acts =
     P5-acts
-    ++ (deliver 0 1 ∷ deliver 0 1 ∷ deliver 2 1 ∷ deliver 2 1 ∷ deliver 2 0 ∷ own_at returning 0 ∷ deliver 0 1 ∷ deliver 0 2 ∷ deliver 0 2 ∷ [])
+    ++ (deliver 0 1 ∷ deliver 0 1 ∷ deliver 2 1 ∷ deliver 2 1 ∷ deliver 2 0 ∷ own_at Returning 0 ∷ deliver 0 1 ∷ deliver 0 2 ∷ deliver 0 2 ∷ [])
 
 abbrev P7-acts : List Act
 P7-acts = P6-acts ++ (deliver 2 1 ∷ [])

@@ -13,16 +13,16 @@ use Rattle.laws.proofs.Tests.{or_off}
 use Rattle.laws.proofs.Ladders.{quiet}
 use Rattle.frame.specs.{declared.Message.{Message}, Message.{msg, counted, known, last_counter}, Frame.{mark, size, frame, fields_of, form_rows}}
 use Rattle.frame.proofs.Frames.{fields_frame}
-use Rattle.calls.specs.{Own.{Own, taking, returning, row_of}, View.{View, acks}, Table.{phase_tests, own_tests, served, sender_tests, turn_tests, receive_tests}}
+use Rattle.calls.specs.{declared.Own.{Own}, declared.Own.TheVariants.{Taking, Returning}, Own.{row_of}, View.{View, acks}, Table.{phase_tests, own_tests, served, sender_tests, turn_tests, receive_tests}}
 
 -- every own call sends a message that frames know, that is settled and counted, and has a number for another phase
 pub own_known : (o : Own) → T (known (row_of o).kind)
-own_known taking = tt
-own_known returning = tt
+own_known Taking = tt
+own_known Returning = tt
 
 pub own_counted_lem : (o : Own) (p c : ℕ) → T (counted (msg (row_of o).kind p c))
-own_counted_lem taking p c = tt
-own_counted_lem returning p c = tt
+own_counted_lem Taking p c = tt
+own_counted_lem Returning p c = tt
 
 -- an own message, sent in its phase
 pub record Speaks (o : Own) (v : View) (n : ℕ) : Type 0 where
@@ -41,8 +41,8 @@ own_passed o v n e =
     }
   where
     real : (o : Own) → T (ltb 0 (row_of o).other && true)
-    real taking = tt
-    real returning = tt
+    real Taking = tt
+    real Returning = tt
 
 and_off : (a b : Bool) → a && b ≡ false → T a → b ≡ false
 and_off true b e t = e

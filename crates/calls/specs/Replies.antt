@@ -1,6 +1,6 @@
 -- The calls that are made of a post, and what they give back: the same of the short record and of the full queue.
 use Rattle.std.specs.Prelude.{Bool, false, List, [], ◌∷◌, ℕ, ℤ}
-use Rattle.calls.specs.Own.{Own}
+use Rattle.calls.specs.declared.Own.{Own}
 
 -- a call, with the frame that is handed in and the bytes that are lent
 pub data Call : Type 0 where

@@ -2,7 +2,7 @@
 use Rattle.std.specs.Prelude.{Bool, not, ◌&&◌, ◌||◌, List, [], ◌∷◌, ◌++◌, ℕ, leb, ltb, eqb, length}
 use Rattle.laws.specs.Ladder.{Row, ◌when◌}
 use Rattle.frame.specs.{declared.Message.{Message}, Message.{take_kind, ack_kind, counted, last_counter}, Frame.{size, fields_of, form_rows}}
-use Rattle.calls.specs.{Own.{Own, row_of}, View.{View, acks}}
+use Rattle.calls.specs.{declared.Own.{Own}, Own.{row_of}, View.{View, acks}}
 
 -- an own message, which goes out in one phase alone; in another it gets the number other
 unfoldable pub phase_tests : ℕ → ℕ → View → ℕ → List Row

@@ -12,7 +12,7 @@ fn lies(len: usize, at: usize, width: usize) -> bool
     width <= 8 && width <= len && at <= len - width
 }
 
-// The number in the `width` bytes from `at` on; 0 where they do not lie in `s` or are more than 8.
+// The number in the `width` bytes from `at` on; 0 where they do not lie in `s` or are more than 8, as `field_at` has it: it cannot fail.
 #[tactic(auto, using(crate::proofs::Eight::loads), unfolding(crate::specs::Field::field_at))]
 pub fn load(s: &[u8], at: usize, width: usize) -> u64
     ensures { result ≡ field_at s.now at width }

@@ -1,7 +1,7 @@
 -- Frames: their bytes, and what reading and writing one give.
-use Rattle.std.specs.Prelude.{not, cond, List, [], ◌∷◌, ◌++◌, ◌≡◌, ℕ, ltb, eqb, length, get_or, drop}
+use Rattle.std.specs.Prelude.{Result, Ok, Err, not, cond, List, [], ◌∷◌, ◌++◌, ◌≡◌, ℕ, ltb, eqb, length, get_or, drop}
 use Rattle.laws.specs.{Big.{total, fields_in, field_bytes}, Ladder.{Row, ◌when◌, refusal}}
-use Rattle.frame.specs.{declared.Message.{Message}, declared.Fields.{Fields}, declared.Reading.{Reading}, Message.{msg, blank, known}}
+use Rattle.frame.specs.{declared.Message.{Message}, declared.Fields.{Fields}, declared.Reading.{Reading}, declared.refusal.Refusal.{Refusal}, Refusal.{number}, Message.{msg, blank, known}}
 
 -- the bytes 46 50 4D
 abbrev pub mark : ℕ
@@ -44,12 +44,22 @@ unfoldable pub read_rows : ℕ → Fields → List Row
 unfolding form_rows message_rows
 read_rows n f = form_rows n f ++ message_rows f.message
 
--- what is read with the number n: the fields, or zeros where it is a refusal
-abbrev pub reading : ℕ → Fields → Reading
+-- what reading gives back: the number, and what the frame says, zeros where it is a refusal
+pub record ReadingTold : Type 0 where
+  pub number : ℕ
+  pub feeder : ℕ
+  pub message : Message
+
+abbrev pub reading_told : Result Reading Refusal → ReadingTold
+reading_told (Ok r) = record { number = 0; feeder = r.feeder; message = r.message }
+reading_told (Err r) = record { number = number r; feeder = 0; message = blank }
+
+-- what is read with the number n
+abbrev pub reading : ℕ → Fields → ReadingTold
 reading n f = cond (eqb n 0) (record { number = 0; feeder = f.feeder; message = f.message }) (record { number = n; feeder = 0; message = blank })
 
 -- what reading a frame gives
-unfoldable pub read_frame : List ℕ → Reading
+unfoldable pub read_frame : List ℕ → ReadingTold
 read_frame s = reading (refusal (read_rows (length s) (fields_of s))) (fields_of s)
 
 -- writing to n bytes

@@ -4,24 +4,58 @@
 ghost use Rattle.std.specs.Prelude.{◌≡◌, ◌≤◌, ◌++◌, length, drop};
 ghost use Rattle.laws.specs.Ladder.{refusal};
 ghost use Rattle.frame.specs.Message.{msg};
-ghost use Rattle.frame.specs.Frame.{frame, size, fields_of, form_rows, message_rows, read_rows, read_frame, write_rows, Written};
+ghost use Rattle.frame.specs.Kind.{kind_number, IsKind};
+ghost use Rattle.frame.specs.Refusal.{number_in};
+ghost use Rattle.frame.specs.Frame.{frame, size, fields_of, form_rows, message_rows, reading_told, read_frame, Written};
 
-// The kinds of a message.
-pub const TAKE: u8 = 1;
+mod refusal;
 
-pub const RETURN: u8 = 2;
+pub use refusal::Refusal;
 
-pub const ACK: u8 = 3;
+// The kinds of a message, each with the number that stands for it in a frame.
+#[derive(Clone, Copy, Debug, PartialEq, Eq)]
+pub enum Kind {
+    Take = 1,
+    Return = 2,
+    Ack = 3,
+}
 
-// A message: its kind, and its stamp of counter and sender.
-#[derive(Clone, Copy, PartialEq, Eq, Debug)]
+impl TryFrom<u8> for Kind {
+    type Error = Refusal;
+
+    ghost try_from_gives = { IsKind };
+
+    fn try_from(kind: u8) -> Result<Self, Refusal> {
+        match kind {
+            1 => Ok(Kind::Take),
+            2 => Ok(Kind::Return),
+            3 => Ok(Kind::Ack),
+            _ => Err(Refusal::Kind),
+        }
+    }
+}
+
+// A message: its kind, and its stamp of counter and sender. The kind is a byte, since `write`, `Post::sound` and `Post::receive` answer for any.
+#[derive(Clone, Copy, Debug, PartialEq, Eq)]
 pub struct Message {
     pub kind: u8,
     pub sender: u8,
     pub counter: u32,
 }
 
-// No message.
+impl Message {
+    pub fn new(kind: Kind, sender: u8, counter: u32) -> Self
+        ensures { result ≡ msg (kind_number kind) sender counter }
+    {
+        Self {
+            kind: kind as u8,
+            sender,
+            counter,
+        }
+    }
+}
+
+// No message: an unused slot of 01's record is zero.
 pub const BLANK: Message = Message {
     kind: 0,
     sender: 0,
@@ -37,10 +71,9 @@ pub struct Fields {
     pub message: Message,
 }
 
-// What reading a frame gives: the refusal number, and what the frame says, zeros where it is refused.
+// What a good frame says.
 #[derive(Clone, Copy)]
 pub struct Reading {
-    pub number: u8,
     pub feeder: u8,
     pub message: Message,
 }
@@ -54,62 +87,37 @@ const VERSION: u16 = 1;
 
 // The refusals that reading and writing share, in the order of the table.
 #[tactic(auto, unfolding(crate::specs::Frame::message_rows))]
-fn message_number(m: Message) -> u8
-    ensures { result ≡ refusal (message_rows m) }
+fn check_message(m: Message) -> Result<(), Refusal>
+    ensures { number_in result ≡ refusal (message_rows m) }
 {
-    if m.kind < TAKE {
-        return 7;
-    }
-    if ACK < m.kind {
-        return 7;
-    }
+    Kind::try_from(m.kind)?;
     if 15 < m.sender {
-        return 8;
+        return Err(Refusal::Sender);
     }
     if m.counter == 0 {
-        return 9;
+        return Err(Refusal::Counter);
     }
-    0
+    Ok(())
 }
 
 // The refusals of bytes that are no frame, whatever message they hold.
 #[tactic(auto, unfolding(crate::specs::Frame::form_rows))]
-pub fn form_number(len: usize, f: Fields) -> u8
-    ensures { result ≡ refusal (form_rows len f) }
+pub fn check_form(len: usize, f: Fields) -> Result<(), Refusal>
+    ensures { number_in result ≡ refusal (form_rows len f) }
 {
     if len != SIZE {
-        return 3;
+        return Err(Refusal::Length);
     }
     if f.mark != MARK {
-        return 4;
+        return Err(Refusal::Mark);
     }
     if f.version != VERSION {
-        return 5;
+        return Err(Refusal::Version);
     }
-    0
+    Ok(())
 }
 
-fn read_number(len: usize, f: Fields) -> u8
-    ensures { result ≡ refusal (read_rows len f) }
-{
-    let number = form_number(len, f);
-    if number != 0 {
-        return number;
-    }
-    let m = f.message;
-    message_number(m)
-}
-
-fn write_number(len: usize, m: Message) -> u8
-    ensures { result ≡ refusal (write_rows len m) }
-{
-    if len < SIZE {
-        return 2;
-    }
-    message_number(m)
-}
-
-// What stands in the fields of a frame's bytes; zeros where there are not as many.
+// What stands in the fields of a frame's bytes; zeros where there are not as many: it cannot fail, and `check_form` says 3.
 pub fn split(s: &[u8]) -> Fields
     ensures { result ≡ fields_of s.now }
 {
@@ -139,45 +147,38 @@ pub fn split(s: &[u8]) -> Fields
     }
 }
 
-pub fn read(s: &[u8]) -> Reading
-    ensures { result ≡ read_frame s.now }
+pub fn read(s: &[u8]) -> Result<Reading, Refusal>
+    ensures { reading_told result ≡ read_frame s.now }
 {
     let f = split(s);
-    let number = read_number(s.len(), f);
-    if number != 0 {
-        return Reading {
-            number,
-            feeder: 0,
-            message: BLANK,
-        };
-    }
-    let m = f.message;
-    Reading {
-        number: 0,
+    check_form(s.len(), f)?;
+    check_message(f.message)?;
+    Ok(Reading {
         feeder: f.feeder,
-        message: m,
-    }
+        message: f.message,
+    })
 }
 
-fn store(buf: &mut [u8], feeder: u8, kind: u8, sender: u8, counter: u32)
+fn store(buf: &mut [u8], feeder: u8, m: Message)
     requires { size ≤ length buf.old }
-    ensures { buf.new ≡ frame feeder (msg kind sender counter) ++ drop size buf.old }
+    ensures { buf.new ≡ frame feeder m ++ drop size buf.old }
 {
-    fields::store(buf, 0, 3, MARK as u64);
-    fields::store(buf, 3, 2, VERSION as u64);
-    fields::store(buf, 5, 1, feeder as u64);
-    fields::store(buf, 6, 1, kind as u64);
-    fields::store(buf, 7, 1, sender as u64);
-    fields::store(buf, 8, 4, counter as u64);
+    fields::store(buf, 0, 3, u64::from(MARK));
+    fields::store(buf, 3, 2, u64::from(VERSION));
+    fields::store(buf, 5, 1, u64::from(feeder));
+    fields::store(buf, 6, 1, u64::from(m.kind));
+    fields::store(buf, 7, 1, u64::from(m.sender));
+    fields::store(buf, 8, 4, u64::from(m.counter));
 }
 
 // Puts a frame into the first bytes of `buf`, or refuses and leaves all of it.
-pub fn write(buf: &mut [u8], feeder: u8, m: Message) -> u8
-    ensures { Written buf.old buf.new feeder m result }
+pub fn write(buf: &mut [u8], feeder: u8, m: Message) -> Result<(), Refusal>
+    ensures { Written buf.old buf.new feeder m (number_in result) }
 {
-    let number = write_number(buf.len(), m);
-    if number == 0 {
-        store(buf, feeder, m.kind, m.sender, m.counter);
+    if buf.len() < SIZE {
+        return Err(Refusal::Buffer);
     }
-    number
+    check_message(m)?;
+    store(buf, feeder, m);
+    Ok(())
 }

@@ -19,6 +19,5 @@ pub mod PlaceLaws  -- .. by places
 pub mod RisingLaws  -- lists that rise by a key
 pub mod LeadingLaws  -- what comes before the first key above a number
 pub mod ScanLaws  -- one turn of a loop
-pub mod ShiftLaws  -- arrays shifted one store a turn
 pub mod SearchLaws  -- the first that passes
 pub mod OneLaws  -- what equals a definition is one

@@ -53,6 +53,14 @@ module _ {A : Type 0} (holds : ℕ → A) (step : ℕ → A → A) (more : (i : 
   turn : (i : ℕ) {x y : A} → x ≡ holds i → y ≡ step i x → y ≡ holds (i + 1)
   turn i e d = d ∙ ap (step i) e ∙ sym (more i) ∙ sym (ap holds (add-one i))
 
+pub all_to_turn : (f : ℕ → Bool) (i : ℕ) {x y : Bool} → x ≡ all_to i f → y ≡ (f i && x) → y ≡ all_to (i + 1) f
+unfolding all_to
+all_to_turn f = turn (λ n. all_to n f) (λ i x. f i && x) (λ i. refl)
+
+pub sum_to_turn : (f : ℕ → ℕ) (i : ℕ) {x y : ℕ} → x ≡ sum_to i f → y ≡ f i + x → y ≡ sum_to (i + 1) f
+unfolding sum_to
+sum_to_turn f = turn (λ n. sum_to n f) (λ i x. f i + x) (λ i. refl)
+
 pub bits_to_turn : (f : ℕ → Bool) (i : ℕ) (b : Bool) {x y : ℕ} → x ≡ bits_to i f → f i ≡ b → y ≡ cond b (2 ^ i) 0 + x → y ≡ bits_to (i + 1) f
 unfolding sum_to
 bits_to_turn f i b {x} e t d =

@@ -1,17 +1,5 @@
--- Looking through lists: the first that passes a test, whether two lists of bytes are the same, runs of numbers and all pairs.
-use Rattle.std.specs.Prelude.{Bool, true, false, cond, ◌&&◌, List, [], ◌∷◌, ◌++◌, map, ℕ, zero, suc, eqb}
-
--- the first that passes; d where none does
-unfoldable pub first : {A : Type 0} → (A → Bool) → A → List A → A
-first f d [] = d
-first f d (x ∷ xs) = cond (f x) x (first f d xs)
-
--- the same bytes
-unfoldable pub same : List ℕ → List ℕ → Bool
-same [] [] = true
-same [] (y ∷ ys) = false
-same (x ∷ xs) [] = false
-same (x ∷ xs) (y ∷ ys) = eqb x y && same xs ys
+-- Lists to look through: runs of numbers and all pairs.
+use Rattle.std.specs.Prelude.{List, [], ◌∷◌, ◌++◌, map, ℕ, zero, suc}
 
 -- n numbers from k on
 unfoldable pub from : ℕ → ℕ → List ℕ

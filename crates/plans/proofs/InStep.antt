@@ -3,6 +3,7 @@ use mathlib.Core.Path.{◌≡◌, refl, sym, ap, ap₂, subst}
 use mathlib.Core.Bool.{Bool, true, false, cond, ◌&&◌}
 use mathlib.Core.List.{List, [], ◌∷◌, ◌++◌}
 use Prim.Native.Nat.{ℕ, ◌+◌, ◌<◌}
+use Rattle.std.specs.Prelude.{Option, Some, None}
 use lib.Dec.{T, leb, ltb, eqb, eqb→eq}
 use lib.ListN.{get_or, drop}
 use Rattle.laws.specs.Below.{one?}
@@ -12,20 +13,21 @@ use Rattle.frame.specs.Message.{blank}
 use Rattle.frame.specs.Frame.{bytes_after}
 use Rattle.calls.specs.declared.Start.{Start}
 use Rattle.calls.specs.Start.{starting}
-use Rattle.calls.specs.Own.{taking, returning}
+use Rattle.calls.specs.declared.Own.TheVariants.{Taking, Returning}
 use Rattle.calls.specs.Replies.{Call, own_call, receive_call, Reply, Answer}
 use Rattle.queue.proofs.Fitting.{CounterFits}
 use Rattle.beside.specs.Demand2.{Accepted}
+use Rattle.bench.specs.declared.lines.Header.{Header}
 use Rattle.bench.specs.declared.lines.Command.{Command}
-use Rattle.bench.specs.declared.lines.Command.TheVariants.{Take, Return, Deliver, Unknown}
-use Rattle.bench.specs.Text.{answer_line, bad_header, last_line}
+use Rattle.bench.specs.declared.lines.Command.TheVariants.{Take, Return, Deliver}
+use Rattle.bench.specs.Text.{answer_line, last_line}
 use Rattle.bench.specs.Lines.{header_of, command_of}
 use Rattle.bench.specs.Night.{lent, seek}
 use Rattle.bench.specs.Output.{lines_from}
 use Rattle.plans.specs.Plan.{Plan}
 use Rattle.plans.specs.Night.{Night, Ran, telling, written, handed_back, next_of, passed, refused, begun, called, offered, ran}
-use Rattle.plans.specs.Output.{in_phases, closing, answers_to, night_from, output_over}
-use Rattle.plans.proofs.Ranges.{header_starts, Within, command_within, sent_fits}
+use Rattle.plans.specs.Output.{in_phases, closing, answers_to, night_of, night_from, output_over}
+use Rattle.plans.proofs.Ranges.{Starts, header_starts, Within, command_within, sent_fits}
 
 -- two answers that tell the same, and leave posts that go in step
 pub record Together {S S' : Type 0} (R : S → S' → Type 0) (x : Answer S) (y : Answer S') : Type 0 where
@@ -127,11 +129,11 @@ module _ {S S' : Type 0} (A : Plan S) (B : Plan S') (R : Start → S → S' → 
         pick true = passed_alike r.night u.night e.night p q i
         pick false = e.night
 
-    ran_alike : (s : Night S) (t : Night S') → Alike s t → (c : Command) → Within n c → RanAlike (ran A s c) (ran B t c)
+    ran_alike : (s : Night S) (t : Night S') → Alike s t → (c : Option Command) → Within n c → RanAlike (ran A s c) (ran B t c)
     unfolding ran
-    ran_alike s t a (Take p) w = called_alike s t a p w (own_call taking lent) tt
-    ran_alike s t a (Return p) w = called_alike s t a p w (own_call returning lent) tt
-    ran_alike s t a (Deliver p q) w =
+    ran_alike s t a (Some (Take p)) w = called_alike s t a p w (own_call Taking lent) tt
+    ran_alike s t a (Some (Return p)) w = called_alike s t a p w (own_call Returning lent) tt
+    ran_alike s t a (Some (Deliver p q)) w =
         let i = next_of s p q in
         subst (λ (j : ℕ). RanAlike (cond (leb 256 i) (refused s 15) (offered A s p q i)) (cond (leb 256 j) (refused t 15) (offered B t p q j)))
         (next_alike s t a p q)
@@ -140,7 +142,7 @@ module _ {S S' : Type 0} (A : Plan S) (B : Plan S') (R : Start → S → S' → 
         pick : (i : ℕ) (b : Bool) → RanAlike (cond b (refused s 15) (offered A s p q i)) (cond b (refused t 15) (offered B t p q i))
         pick i true = refused_alike s t a 15
         pick i false = offered_alike s t a p q i w.1
-    ran_alike s t a Unknown w = refused_alike s t a 16
+    ran_alike s t a None w = refused_alike s t a 16
 
     answers_alike : (ls : List (List ℕ)) (i : ℕ) (s : Night S) (t : Night S') → Alike s t → answers_to A n k s i ls ≡ answers_to B n k t i ls
     unfolding answers_to
@@ -149,7 +151,7 @@ module _ {S S' : Type 0} (A : Plan S) (B : Plan S') (R : Start → S → S' → 
         let c = command_of n l in
         let r = ran_alike s t a c (command_within n l) in
         let e = answers_alike ls (i + 1) (ran A s c).night (ran B t c).night r.night in
-        λ j. cond (ltb i 256) (answer_line (i + 1) c (r.number j) (r.granted j) ++ e j) (answer_line 257 Unknown 17 false ++ closing_alike s t a j)
+        λ j. cond (ltb i 256) (answer_line (i + 1) c (r.number j) (r.granted j) ++ e j) (answer_line 257 None 17 false ++ closing_alike s t a j)
 
     begun_alike : Alike (begun A n k) (begun B n k)
     unfolding begun
@@ -158,11 +160,11 @@ module _ {S S' : Type 0} (A : Plan S) (B : Plan S') (R : Start → S → S' → 
   lines_alike : (ls : List (List ℕ)) → night_from A ls ≡ night_from B ls
   unfolding night_from
   lines_alike [] = refl
-  lines_alike (l ∷ ls) =
-      let h = header_of l in
-      let n = h.posts in
-      let k = h.places in
-      ap (cond (eqb n 0) bad_header) (answers_alike n k (header_starts l) ls 0 (begun A n k) (begun B n k) (begun_alike n k (header_starts l)))
+  lines_alike (l ∷ ls) = go (header_of l) (header_starts l)
+    where
+      go : (h : Option Header) → Starts h → night_of A h ls ≡ night_of B h ls
+      go (Some h) starts = answers_alike h.posts h.places starts ls 0 (begun A h.posts h.places) (begun B h.posts h.places) (begun_alike h.posts h.places starts)
+      go None starts = refl
 
   pub same-output : (input : List ℕ) → output_over A input ≡ output_over B input
   unfolding output_over

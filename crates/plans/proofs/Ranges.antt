@@ -3,18 +3,20 @@ use mathlib.Core.Bool.{Bool, not, ◌&&◌}
 use mathlib.Core.List.{List}
 use Prim.Native.Nat.{ℕ, ◌≤◌, ◌<◌}
 use native.Mathlib.Omega.{arith}
+use Rattle.std.specs.Prelude.{Option, Some, None}
 use lib.Dec.{T, leb, ltb, eqb, ltb→lt, leb→le}
 use lib.ListN.{drop}
 use Rattle.laws.specs.Big.{Bytes}
 use Rattle.laws.specs.Below.{all_to}
-use Rattle.laws.specs.Lists.{keep, all}
-use Rattle.laws.specs.Search.{same, from, pairs}
+use Rattle.laws.specs.Lists.{In, keep, all}
+use Rattle.laws.specs.Search.{from, pairs}
+use Rattle.std.specs.Str.{bytes_eq}
 use Rattle.laws.proofs.Tests.{cond_both, and_l, and_r}
 use Rattle.laws.proofs.BigLaws.{bytes_append}
 use Rattle.laws.proofs.BelowLaws.{all_to_at}
 use Rattle.laws.proofs.ListLaws.{keep_in}
 use Rattle.laws.proofs.ScanLaws.{all_at}
-use Rattle.laws.proofs.SearchLaws.{first_has}
+use Rattle.laws.proofs.SearchLaws.{find_has}
 use Rattle.frame.specs.declared.Message.{Message}
 use Rattle.frame.specs.Message.{last_counter}
 use Rattle.frame.specs.Frame.{size, frame, over, fields_of, write_no, bytes_after}
@@ -23,7 +25,7 @@ use Rattle.frame.proofs.FrameFields.{counter_fits}
 use Rattle.calls.specs.Start.{starting, in_range}
 use Rattle.bench.specs.declared.lines.Header.{Header}
 use Rattle.bench.specs.declared.lines.Command.{Command}
-use Rattle.bench.specs.declared.lines.Command.TheVariants.{Take, Return, Deliver, Unknown}
+use Rattle.bench.specs.declared.lines.Command.TheVariants.{Take, Return, Deliver}
 use Rattle.bench.specs.Text.{text}
 use Rattle.bench.specs.Lines.{inside, in_range_for, every_command, command_of, heading, header_text, header_of}
 use Rattle.bench.specs.Night.{lent}
@@ -34,38 +36,43 @@ use Rattle.bench.specs.Night.{lent}
 accepts : Header → Bool
 accepts h = leb h.posts 16 && all_to h.posts (λ p. in_range (starting h.posts p 0 h.places))
 
-header_accepts : (line : List ℕ) → T (accepts (header_of line))
-unfolding header_of accepts all all_to in_range pairs from
-header_accepts line =
-    first_has (λ h. T (accepts h)) (λ h. same (header_text h) line) (heading 0 0) (pairs heading (from 1 16) (from 1 16)) tt
-    (all_at accepts (pairs heading (from 1 16) (from 1 16)) tt)
+accepted : (h : Header) → In h (pairs heading (from 1 16) (from 1 16)) → T (accepts h)
+unfolding accepts all all_to in_range pairs from
+accepted = all_at accepts (pairs heading (from 1 16) (from 1 16)) tt
 
-pub header_starts : (line : List ℕ) (p : ℕ) → let h = header_of line in p < h.posts → T (in_range (starting h.posts p 0 h.places))
-unfolding accepts
+abbrev pub Starts : Option Header → Type 0
+Starts (Some h) = (p : ℕ) → p < h.posts → T (in_range (starting h.posts p 0 h.places))
+Starts None = Unit
+
+abbrev pub Sixteen : Option Header → Type 0
+Sixteen (Some h) = h.posts ≤ 16
+Sixteen None = Unit
+
+pub header_starts : (line : List ℕ) → Starts (header_of line)
+unfolding header_of accepts
 header_starts line =
-    let h = header_of line in
-    let f : ℕ → Bool = λ p. in_range (starting h.posts p 0 h.places) in
-    all_to_at h.posts f (and_r (leb h.posts 16) (all_to h.posts f) (header_accepts line))
+    find_has Starts (λ h. bytes_eq (header_text h) line) (pairs heading (from 1 16) (from 1 16)) tt
+    (λ h i. let f : ℕ → Bool = λ p. in_range (starting h.posts p 0 h.places) in all_to_at h.posts f (and_r (leb h.posts 16) (all_to h.posts f) (accepted h i)))
 
-pub header_few : (line : List ℕ) → (header_of line).posts ≤ 16
-unfolding accepts
+pub header_few : (line : List ℕ) → Sixteen (header_of line)
+unfolding header_of accepts
 header_few line =
-    let h = header_of line in
-    leb→le h.posts 16 (and_l (leb h.posts 16) (all_to h.posts (λ p. in_range (starting h.posts p 0 h.places))) (header_accepts line))
+    find_has Sixteen (λ h. bytes_eq (header_text h) line) (pairs heading (from 1 16) (from 1 16)) tt
+    (λ h i. leb→le h.posts 16 (and_l (leb h.posts 16) (all_to h.posts (λ p. in_range (starting h.posts p 0 h.places))) (accepted h i)))
 
 -- ---- commands
 
-abbrev pub Within : ℕ → Command → Type 0
-Within n (Take p) = p < n
-Within n (Return p) = p < n
-Within n (Deliver p q) = (p < n) × (q < n)
-Within n Unknown = Unit
+abbrev pub Within : ℕ → Option Command → Type 0
+Within n (Some (Take p)) = p < n
+Within n (Some (Return p)) = p < n
+Within n (Some (Deliver p q)) = (p < n) × (q < n)
+Within n None = Unit
 
 below : (n p : ℕ) → T (inside n p) → p < n
 unfolding inside
 below n p t = ltb→lt p n (and_l (ltb p n) (ltb p 16) t)
 
-within : (n : ℕ) (c : Command) → T (in_range_for n c) → Within n c
+within : (n : ℕ) (c : Command) → T (in_range_for n c) → Within n (Some c)
 unfolding in_range_for
 within n (Take p) t = below n p t
 within n (Return p) t = below n p t
@@ -73,12 +80,11 @@ within n (Deliver p q) t = (
   below n p (and_l (inside n p) (inside n q && not (eqb p q)) t),
   below n q (and_l (inside n q) (not (eqb p q)) (and_r (inside n p) (inside n q && not (eqb p q)) t)),
 )
-within n Unknown t = absurd t
 
 pub command_within : (n : ℕ) (line : List ℕ) → Within n (command_of n line)
 unfolding command_of
 command_within n line =
-    first_has (Within n) (λ c. same (text c) line) Unknown (keep (in_range_for n) every_command) tt
+    find_has (Within n) (λ c. bytes_eq (text c) line) (keep (in_range_for n) every_command) tt
     (λ c i. within n c (keep_in (in_range_for n) c every_command i).1)
 
 -- ---- frames

@@ -8,6 +8,7 @@ use Prim.Native.Nat.{ℕ, ◌+◌, ◌*◌, ◌≤◌, ◌<◌}
 use native.Mathlib.Omega.{arith}
 use native.Mathlib.Numerals.{add-one}
 use borrow.Author.Tests.{lt-ltb, eq-eqb, ne_eqb}
+use Rattle.std.specs.Prelude.{Option, Some, None}
 use lib.Dec.{T, leb, ltb, eqb, eqb→eq, ltb→lt, nleb→lt}
 use lib.Ieee.Bits.{is_true, is_false}
 use lib.ListN.{length, get_or, take, drop, set, length-drop, length-set, get_or-replicate, get_or-eq_default}
@@ -21,17 +22,19 @@ use Rattle.frame.specs.declared.Message.{Message}
 use Rattle.frame.specs.Message.{blank, by}
 use Rattle.frame.specs.Frame.{fields_of, bytes_after}
 use Rattle.calls.specs.Start.{starting, in_range}
-use Rattle.calls.specs.Own.{Own, taking, returning}
+use Rattle.calls.specs.declared.Own.{Own}
+use Rattle.calls.specs.declared.Own.TheVariants.{Taking, Returning}
 use Rattle.calls.specs.Replies.{own_call}
 use Rattle.post.specs.declared.Post.{Post}
-use Rattle.post.specs.declared.Started.{Started}
+use Rattle.post.specs.Calls.{StartTold}
 use Rattle.post.specs.Record.{fresh}
 use Rattle.post.specs.Calls.{Outcome, started, spoke, received}
 use Rattle.beside.specs.OnRecord.{answered, on_record}
 use Rattle.bench.specs.declared.Night as declared
+use Rattle.bench.specs.declared.lines.Header.{Header}
 use Rattle.bench.specs.declared.lines.Command.{Command}
-use Rattle.bench.specs.declared.lines.Command.TheVariants.{Take, Return, Deliver, Unknown}
-use Rattle.bench.specs.Text.{answer_line, bad_header, last_line}
+use Rattle.bench.specs.declared.lines.Command.TheVariants.{Take, Return, Deliver}
+use Rattle.bench.specs.Text.{answer_line, last_line}
 use Rattle.bench.specs.Lines.{header_of, command_of}
 use Rattle.bench.specs.Night.{lent, opened, post_of, seek}
 use Rattle.bench.specs.Night as bench
@@ -40,9 +43,9 @@ use Rattle.bench.specs.Output.{lines_from, output}
 use Rattle.bench.specs.Output as bench-output
 use Rattle.plans.specs.Plan.{basic}
 use Rattle.plans.specs.Night.{Night, Ran, handed_back, next_of, passed, refused, begun, called, offered, ran}
-use Rattle.plans.specs.Output.{in_phases, closing, answers_to, night_from, output_over}
+use Rattle.plans.specs.Output.{in_phases, closing, answers_to, night_of, night_from, output_over}
 use Rattle.plans.specs.Same.{BenchIsBasic}
-use Rattle.plans.proofs.Ranges.{header_few, Within, command_within}
+use Rattle.plans.proofs.Ranges.{Sixteen, header_few, Within, command_within}
 
 -- what is found stands in the list
 seek_found : (p i : ℕ) (l : List Message) → seek p i l < 256 → (seek p i l < i + length l) × (0 < length l)
@@ -70,7 +73,7 @@ either false f e = e
 -- a post that has just started is idle
 opened_idle : (n k p : ℕ) → (opened n k p).phase ≡ 0
 unfolding opened started fresh
-opened_idle n k p = cond_both {A = Started} (λ s. s.post.phase ≡ 0) (in_range (starting n p 0 k)) _ _ (λ y. refl) (λ z. refl)
+opened_idle n k p = cond_both {A = StartTold} (λ s. s.post.phase ≡ 0) (in_range (starting n p 0 k)) _ _ (λ y. refl) (λ z. refl)
 
 module _ (n : ℕ) (few : n ≤ 16) where
   -- the two nights after i commands: the posts below N are the same, the others idle; the places filled hold what is sent, at most one
@@ -239,11 +242,11 @@ module _ (n : ℕ) (few : n ≤ 16) where
     refused_beside : (number : ℕ) → RanBeside (i + 1) (bench.refused s number) (refused t number)
     refused_beside number = record { night = later i s t b; number = refl; granted = refl }
 
-    ran_beside : i < 256 → (c : Command) → Within n c → RanBeside (i + 1) (bench.ran s c) (ran basic t c)
+    ran_beside : i < 256 → (c : Option Command) → Within n c → RanBeside (i + 1) (bench.ran s c) (ran basic t c)
     unfolding bench.ran ran
-    ran_beside h (Take p) w = own_beside i s t b h p w taking
-    ran_beside h (Return p) w = own_beside i s t b h p w returning
-    ran_beside h (Deliver p q) w =
+    ran_beside h (Some (Take p)) w = own_beside i s t b h p w Taking
+    ran_beside h (Some (Return p)) w = own_beside i s t b h p w Returning
+    ran_beside h (Some (Deliver p q)) w =
         let lp = w.0 in
         let lq = w.1 in
         let j = bench.next_of s p q in
@@ -255,7 +258,7 @@ module _ (n : ℕ) (few : n ≤ 16) where
             → RanBeside (i + 1) (cond x (bench.refused s 15) (bench.offered s p q j)) (cond x (refused t 15) (offered basic t p q j))
         pick j true f = refused_beside 15
         pick j false f = f tt
-    ran_beside h Unknown w = refused_beside 16
+    ran_beside h None w = refused_beside 16
 
   answers_beside : (k : ℕ) (ls : List (List ℕ)) (i : ℕ) (s : declared.Night) (t : Night Post) → Beside i s t
       → bench-output.answers_to n k s i ls ≡ answers_to basic n k t i ls
@@ -268,7 +271,7 @@ module _ (n : ℕ) (few : n ≤ 16) where
       let r = ran_beside i s t b (ltb→lt i 256 y) c (command_within n l) in
       let e = answers_beside k ls (i + 1) (bench.ran s c).night (ran basic t c).night r.night in
       λ j. answer_line (i + 1) c (r.number j) (r.granted j) ++ e j)
-      (ap (λ (l : List ℕ). answer_line 257 Unknown 17 false ++ l) (closing_beside i s t b k))
+      (ap (λ (l : List ℕ). answer_line 257 None 17 false ++ l) (closing_beside i s t b k))
 
   begun_beside : (k : ℕ) → Beside 0 (bench.begun n k) (begun basic n k)
   unfolding bench.begun begun basic from opened
@@ -292,11 +295,11 @@ module _ (n : ℕ) (few : n ≤ 16) where
 lines_beside : (ls : List (List ℕ)) → bench-output.night_from ls ≡ night_from basic ls
 unfolding bench-output.night_from night_from
 lines_beside [] = refl
-lines_beside (l ∷ ls) =
-    let h = header_of l in
-    let n = h.posts in
-    let k = h.places in
-    ap (cond (eqb n 0) bad_header) (answers_beside n (header_few l) k ls 0 (bench.begun n k) (begun basic n k) (begun_beside n (header_few l) k))
+lines_beside (l ∷ ls) = go (header_of l) (header_few l)
+  where
+    go : (h : Option Header) → Sixteen h → bench-output.night_of h ls ≡ night_of basic h ls
+    go (Some h) few = answers_beside h.posts few h.places ls 0 (bench.begun h.posts h.places) (begun basic h.posts h.places) (begun_beside h.posts few h.places)
+    go None few = refl
 
 pub beside_records : BenchIsBasic
 unfolding output output_over

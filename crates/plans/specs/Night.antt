@@ -1,9 +1,9 @@
 -- A night over any plan: the posts, the messages sent, and how far each post has read of each other's. What a command does to it.
-use Rattle.std.specs.Prelude.{Bool, false, cond, ◌&&◌, List, [], ◌∷◌, ◌++◌, ℕ, ◌+◌, leb, eqb, get_or, drop}
+use Rattle.std.specs.Prelude.{Bool, false, cond, ◌&&◌, List, [], ◌∷◌, ◌++◌, ℕ, ◌+◌, leb, eqb, Option, Some, None, get_or, drop}
 use Rattle.frame.specs.{declared.Message.{Message}, Message.{blank}, Frame.{fields_of, bytes_after}}
-use Rattle.calls.specs.{Start.{starting}, Own.{taking, returning}}
+use Rattle.calls.specs.{Start.{starting}, declared.Own.TheVariants.{Taking, Returning}}
 use Rattle.calls.specs.Replies.{Call, own_call, receive_call, Told, Reply, told, worth, lacking, Answer}
-use Rattle.bench.specs.{declared.lines.Command.{Command}, declared.lines.Command.TheVariants.{Take, Return, Deliver, Unknown}, Night.{lent, seek}}
+use Rattle.bench.specs.{declared.lines.Command.{Command}, declared.lines.Command.TheVariants.{Take, Return, Deliver}, Night.{lent, seek}}
 use Rattle.plans.specs.Plan.{Plan}
 
 pub record Night (S : Type 0) : Type 0 where
@@ -63,8 +63,9 @@ module _ {S : Type 0} (plan : Plan S) where
       let r = called s q (receive_call (bytes_after lent 0 (get_or s.sent i blank)) lent) in
       record { night = cond (eqb r.number 0) (passed r.night p q i) r.night; number = r.number; granted = r.granted }
 
-  unfoldable pub ran : Night S → Command → Ran S
-  ran s (Take p) = called s p (own_call taking lent)
-  ran s (Return p) = called s p (own_call returning lent)
-  ran s (Deliver p q) = cond (leb 256 (next_of s p q)) (refused s 15) (offered s p q (next_of s p q))
-  ran s Unknown = refused s 16
+  -- what a line asks for; what is no command is refused
+  unfoldable pub ran : Night S → Option Command → Ran S
+  ran s (Some (Take p)) = called s p (own_call Taking lent)
+  ran s (Some (Return p)) = called s p (own_call Returning lent)
+  ran s (Some (Deliver p q)) = cond (leb 256 (next_of s p q)) (refused s 15) (offered s p q (next_of s p q))
+  ran s None = refused s 16

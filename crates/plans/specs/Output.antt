@@ -1,7 +1,7 @@
 -- The whole output for a whole input, over any plan. Lines, commands and texts are the bench's.
-use Rattle.std.specs.Prelude.{false, cond, ◌&&◌, List, [], ◌∷◌, ◌++◌, ℕ, ◌+◌, leb, ltb, eqb}
+use Rattle.std.specs.Prelude.{false, cond, ◌&&◌, List, [], ◌∷◌, ◌++◌, ℕ, ◌+◌, leb, ltb, Option, Some, None}
 use Rattle.laws.specs.Below.{count_to}
-use Rattle.bench.specs.{declared.lines.Header.{Header}, declared.lines.Command.TheVariants.{Unknown}, Text.{answer_line, bad_header, last_line}}
+use Rattle.bench.specs.{declared.lines.Header.{Header}, Text.{answer_line, bad_header, last_line}}
 use Rattle.bench.specs.{Lines.{header_of, command_of}, Output.{lines_from}}
 use Rattle.plans.specs.{Plan.{Plan}, Night.{Night, begun, ran}}
 
@@ -22,10 +22,11 @@ module _ {S : Type 0} (plan : Plan S) where
       let r = ran plan s c in
       cond (ltb i 256)
       (answer_line (i + 1) c r.number r.granted ++ answers_to posts places r.night (i + 1) ls)
-      (answer_line 257 Unknown 17 false ++ closing posts places s)
+      (answer_line 257 None 17 false ++ closing posts places s)
 
-  abbrev pub night_of : Header → List (List ℕ) → List ℕ
-  night_of h ls = cond (eqb h.posts 0) bad_header (answers_to h.posts h.places (begun plan h.posts h.places) 0 ls)
+  abbrev pub night_of : Option Header → List (List ℕ) → List ℕ
+  night_of (Some h) ls = answers_to h.posts h.places (begun plan h.posts h.places) 0 ls
+  night_of None ls = bad_header
 
   unfoldable pub night_from : List (List ℕ) → List ℕ
   night_from [] = bad_header

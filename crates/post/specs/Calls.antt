@@ -1,14 +1,22 @@
 -- What each call gives back and leaves, for every record, every frame and every lent buffer.
-use Rattle.post.specs.declared.{Post.{Post}, Started.{Started}, Answer.{Answer}, Value.{Value}, Missing.{Missing}}
-use Rattle.std.specs.Prelude.{◌≡◌, Bool, true, false, not, cond, ◌&&◌, List, [], ◌∷◌, ℕ, ◌+◌, max, ltb, eqb, pos, ◌-ℤ◌, length, set}
+use Rattle.post.specs.declared.{Post.{Post}, Started.{Started}, Marks.{Marks}, Answer.{Answer}, Missing.{Missing}}
+use Rattle.std.specs.Prelude.{Result, Ok, Err, ℤ, ◌≡◌, Bool, true, false, not, cond, ◌&&◌, List, [], ◌∷◌, ℕ, ◌+◌, max, ltb, eqb, pos, ◌-ℤ◌, length, set}
 use Rattle.laws.specs.Ladder.{Row, ◌when◌, unless}
 use Rattle.laws.specs.{Lists.{many, put}, Below.{count_to, bits_to}}
-use Rattle.frame.specs.{declared.Message.{Message}, Message.{msg, ack_kind, counted, stamp_of, stamp, by, own_take}, Frame.{over, fields_of}}
-use Rattle.calls.specs.{declared.Start.{Start}, Start.{starting, in_range}, Own.{Own, row_of}, View.{View, acks}, Table.{own_tests, receive_tests}}
+use Rattle.frame.specs.{declared.Message.{Message}, Message.{msg, ack_kind, counted, stamp_of, stamp, by, own_take}, declared.refusal.Refusal.{Refusal}, Refusal.{number, number_in}, Frame.{over, fields_of}}
+use Rattle.calls.specs.{declared.Start.{Start}, Start.{starting, in_range}, declared.Own.{Own}, Own.{row_of}, View.{View, acks}, Table.{own_tests, receive_tests}}
 use Rattle.post.specs.{Record.{start_of, last_of, waiting_of, fresh, remade}, Sound.{sound}, Settle.{settle}}
 
--- a start; a refused one gives the all-zero record
-unfoldable pub started : Start → Started
+-- a start: the record and the number
+pub record StartTold : Type 0 where
+  pub post : Post
+  pub number : ℕ
+
+abbrev pub start_told : Started → StartTold
+start_told s = record { post = s.post; number = number_in s.outcome }
+
+-- a refused one gives the all-zero record
+unfoldable pub started : Start → StartTold
 started st = cond (in_range st) (record { post = fresh st; number = 0 }) (record { post = fresh (starting 0 0 0 0); number = 1 })
 
 -- what the table looks at
@@ -48,22 +56,36 @@ waiting_with p m = cond (counted m) (put stamp m (waiting_of p)) (waiting_of p)
 unfoldable pub came : Post → Message → Post
 came p m = remade p (clock_with p m) (last_with p m) (waiting_with p m) p.phase p.order
 
--- a call's answer, and the lent bytes at its end
+-- a call's answer: record, number and marks
+pub record AnswerTold : Type 0 where
+  pub post : Post
+  pub number : ℕ
+  pub wrote : Bool
+  pub granted : Bool
+
+abbrev pub outcome_told : Post → Result Marks Refusal → AnswerTold
+outcome_told p (Ok m) = record { post = p; number = 0; wrote = m.wrote; granted = m.granted }
+outcome_told p (Err r) = record { post = p; number = number r; wrote = false; granted = false }
+
+abbrev pub answer_told : Answer → AnswerTold
+answer_told a = outcome_told a.post a.outcome
+
+-- .. and the lent bytes at its end
 pub record Outcome : Type 0 where
-  pub gives : Answer
+  pub gives : AnswerTold
   pub leaves : List ℕ
 
 -- what came of a call is the outcome
 pub record Gives (o : Outcome) (result : Answer) (after : List ℕ) : Type 0 where
-  pub gives : result ≡ o.gives
+  pub gives : answer_told result ≡ o.gives
   pub leaves : after ≡ o.leaves
 
 -- done, with the phase before and the record after
-abbrev pub answer : ℕ → Post → Bool → Answer
+abbrev pub answer : ℕ → Post → Bool → AnswerTold
 answer before p wrote = record { post = p; number = 0; wrote = wrote; granted = not (eqb before 3) && eqb p.phase 3 }
 
 -- refused: the record and the lent bytes stay
-abbrev pub refused : Post → ℕ → Answer
+abbrev pub refused : Post → ℕ → AnswerTold
 refused p n = record { post = p; number = n; wrote = false; granted = false }
 
 abbrev pub stays : Post → List ℕ → ℕ → Outcome
@@ -86,8 +108,26 @@ spoke o p lent = unless (own_rows o p (length lent)) (stays p lent) (said o p le
 abbrev pub received : Post → List ℕ → List ℕ → Outcome
 received p s lent = unless (receive_rows p s (length lent)) (stays p lent) (heard_from p (fields_of s).message lent)
 
+-- what an inquiry gives: the number, and zeros where it is a refusal
+pub record ValueTold : Type 0 where
+  pub number : ℕ
+  pub value : ℤ
+
+abbrev pub value_told : Result ℤ Refusal → ValueTold
+value_told (Ok v) = record { number = 0; value = v }
+value_told (Err r) = record { number = number r; value = pos 0 }
+
+pub record MissingTold : Type 0 where
+  pub number : ℕ
+  pub set : ℕ
+  pub count : ℕ
+
+abbrev pub missing_told : Result Missing Refusal → MissingTold
+missing_told (Ok m) = record { number = 0; set = m.set; count = m.count }
+missing_told (Err r) = record { number = number r; set = 0; count = 0 }
+
 -- K + settled returns - settled takes
-unfoldable pub valued : Post → Value
+unfoldable pub valued : Post → ValueTold
 valued p =
     cond (sound p)
     (record { number = 0; value = pos (p.places + p.returns) -ℤ pos p.takes })
@@ -103,7 +143,7 @@ unfoldable pub lacks : Post → ℕ → Bool
 lacks p q = eqb p.phase 1 && (not (eqb q p.own) && ltb (stamp_of (last_of p q) q) (own_stamp p.own (waiting_of p)))
 
 -- bit q for post q, and how many bits are set
-unfoldable pub missed : Post → Missing
+unfoldable pub missed : Post → MissingTold
 missed p =
     cond (sound p)
     (record { number = 0; set = bits_to p.posts (lacks p); count = count_to p.posts (lacks p) })

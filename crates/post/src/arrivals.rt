@@ -1,8 +1,9 @@
 // A frame that arrives: the first row of the table that refuses it, and its message where none does.
-ghost use Rattle.std.specs.Prelude.{◌≡◌, ◌&&◌, ◌||◌, ◌<◌, T, leb, eqb};
+ghost use Rattle.std.specs.Prelude.{◌≡◌, ◌<◌, T};
 ghost use Rattle.laws.specs.Ladder.{refusal};
 ghost use Rattle.laws.specs.Lists.{many};
-ghost use Rattle.frame.specs.Message.{blank, last_counter, counted, by};
+ghost use Rattle.frame.specs.Message.{by};
+ghost use Rattle.frame.specs.Refusal.{number_in};
 ghost use Rattle.calls.specs.View.{acks};
 ghost use Rattle.calls.specs.Table.{sender_tests, turn_tests};
 ghost use Rattle.post.specs.Record.{waiting_of};
@@ -11,137 +12,67 @@ ghost use Rattle.post.specs.Calls.{view_of};
 ghost use Rattle.post.specs.Inside.{Arrives};
 
 use crate::{LAST, Post, slots};
-use frame::Message;
-
-// What a look at a frame finds: the refusal, and the message where there is none.
-#[derive(Clone, Copy)]
-pub(crate) struct Arrival {
-    pub number: u8,
-    pub message: Message,
-}
-
-fn not_taken(number: u8) -> Arrival
-    ensures { result ≡ record { number = number; message = blank } }
-{
-    Arrival {
-        number,
-        message: frame::BLANK,
-    }
-}
-
-// One more of a sender of whom so many wait would be too many.
-fn is_fifth(m: Message, count: u8) -> bool
-    ensures { result ≡ (counted m && leb 4 count) }
-{
-    if !slots::is_counted(m) {
-        return false;
-    }
-    Post::WAITING <= count
-}
+use frame::{Kind, Message, Refusal};
 
 impl Post {
-    // A sender that is the post itself, or no post of the feeder.
-    fn is_stranger(self, m: Message) -> bool
-        ensures { result ≡ (eqb m.sender self.own || leb self.posts m.sender) }
-    {
-        if m.sender == self.own {
-            return true;
-        }
-        self.posts <= m.sender
-    }
-
+    // Beside the tests of `frame::read`, which let any sender below 16 pass: a row of another table decides here.
     #[tactic(auto, unfolding(calls::specs::Table::sender_tests))]
-    fn sender_number(self, m: Message) -> u8
-        ensures { result ≡ refusal (sender_tests (view_of self) m) }
+    fn check_sender(&self, m: Message) -> Result<(), Refusal>
+        ensures { number_in result ≡ refusal (sender_tests (view_of self.now) m) }
     {
-        let stranger = self.is_stranger(m);
-        let zero = m.counter == 0;
-        if m.kind < frame::TAKE {
-            return 7;
+        Kind::try_from(m.kind)?;
+        if m.sender == self.own || self.posts <= m.sender {
+            return Err(Refusal::Sender);
         }
-        if frame::ACK < m.kind {
-            return 7;
+        if m.counter == 0 {
+            return Err(Refusal::Counter);
         }
-        if stranger {
-            return 8;
-        }
-        if zero {
-            return 9;
-        }
-        0
+        Ok(())
     }
 
     // Whether a message that comes in is acknowledged.
-    pub(crate) fn acknowledges(self, m: Message) -> bool
-        ensures { result ≡ acks (view_of self) m }
+    pub(crate) fn acknowledges(&self, m: Message) -> bool
+        ensures { result ≡ acks (view_of self.now) m }
     {
         slots::is_counted(m)
     }
 
-    // There is no counter left for the acknowledgment of m.
-    fn is_spent(self, m: Message) -> bool
-        ensures { result ≡ (acks (view_of self) m && (leb last_counter self.clock || leb last_counter m.counter)) }
-    {
-        if !self.acknowledges(m) {
-            return false;
-        }
-        if LAST <= self.clock {
-            return true;
-        }
-        LAST <= m.counter
-    }
-
     // The refusals of a message by its turn, where so many of its sender wait.
     #[tactic(auto, unfolding(calls::specs::Table::turn_tests))]
-    fn turn_number(self, m: Message, count: u8) -> u8
-        requires { T (sound self) × (m.sender < self.posts) × (count ≡ many (by m.sender) (waiting_of self)) }
-        ensures { result ≡ refusal (turn_tests (view_of self) m) }
+    fn check_turn(&self, m: Message, count: u8) -> Result<(), Refusal>
+        requires { T (sound self.now) × (m.sender < self.now.posts) × (count ≡ many (by m.sender) (waiting_of self.now)) }
+        ensures { number_in result ≡ refusal (turn_tests (view_of self.now) m) }
     {
-        let last = self.last;
-        let from = m.sender as usize;
-        let spent = self.is_spent(m);
-        let fifth = is_fifth(m, count);
-        if m.counter <= last[from] {
-            return 10;
+        if m.counter <= self.last[m.sender as usize] {
+            return Err(Refusal::Turn);
         }
-        if spent {
-            return 11;
+        if self.acknowledges(m) && (LAST <= self.clock || LAST <= m.counter) {
+            return Err(Refusal::Spent);
         }
-        if fifth {
-            return 12;
+        if slots::is_counted(m) && Self::WAITING <= count {
+            return Err(Refusal::Waiting);
         }
-        0
+        Ok(())
     }
 
-    // A frame that has arrived, with so many bytes lent.
-    pub(crate) fn arrival(self, frame: &[u8], len: usize) -> Arrival
-        ensures { Arrives self frame.now len result }
+    // The message of a frame that has arrived, with so many bytes lent.
+    pub(crate) fn arrival(&self, frame: &[u8], len: usize) -> Result<Message, Refusal>
+        ensures { Arrives self.now frame.now len result }
     {
         let Some(seen) = self.checked() else {
-            return not_taken(1);
+            return Err(Refusal::Record);
         };
         if len < Self::FRAME {
-            return not_taken(2);
+            return Err(Refusal::Buffer);
         }
         let f = frame::split(frame);
-        let form = frame::form_number(frame.len(), f);
-        if form != 0 {
-            return not_taken(form);
+        frame::check_form(frame.len(), f)?;
+        if f.feeder != self.feeder {
+            return Err(Refusal::Feeder);
         }
         let m = f.message;
-        let sender = self.sender_number(m);
-        let elsewhere = f.feeder != self.feeder;
-        if elsewhere {
-            return not_taken(6);
-        }
-        if sender != 0 {
-            return not_taken(sender);
-        }
-        let counts = seen.counts;
-        let from = m.sender as usize;
-        Arrival {
-            number: self.turn_number(m, counts[from]),
-            message: m,
-        }
+        self.check_sender(m)?;
+        self.check_turn(m, seen.counts[m.sender as usize])?;
+        Ok(m)
     }
 }

@@ -9,21 +9,22 @@ mod settling;
 mod slots;
 mod soundness;
 
-ghost use Rattle.std.specs.Prelude.{◌≡◌, not, ◌∷◌, ◌≤◌, ◌<◌, max, T, length};
-ghost use Rattle.laws.specs.Ladder.{◌when◌, refusal};
+ghost use Rattle.std.specs.Prelude.{◌≡◌, ◌≤◌, ◌<◌, max, T, length};
+ghost use Rattle.laws.specs.Ladder.{refusal};
 ghost use Rattle.frame.specs.Message.{counted, last_counter, stamp_of};
 ghost use Rattle.frame.specs.Frame.{size};
-ghost use Rattle.calls.specs.Own.{taking, returning};
+ghost use Rattle.frame.specs.Refusal.{number, number_in};
+ghost use Rattle.calls.specs.declared.Own.TheVariants.{Taking, Returning};
 ghost use Rattle.calls.specs.View.{acks};
-ghost use Rattle.calls.specs.Table.{phase_tests};
 ghost use Rattle.post.specs.Record.{fresh};
 ghost use Rattle.post.specs.Sound.{sound};
-ghost use Rattle.post.specs.Calls.{started, view_of, Gives, refused, spoke, heard_from, received, valued, missed};
+ghost use Rattle.post.specs.Inside.{acknowledgment_of};
+ghost use Rattle.post.specs.Calls.{start_told, started, view_of, own_rows, Gives, answer_told, refused, spoke, came, received, value_told, valued, missing_told, missed};
 
-use calls::Start;
-use frame::Message;
+use calls::{Own, Start};
+use frame::{Kind, Message, Refusal};
 
-// Document 01's record, its fields in 01's order and widths.
+// Document 01's record, its fields in 01's order and widths: numbers, arrays and a count, for any bytes of which `sound` answers.
 #[derive(Clone, Copy)]
 pub struct Post {
     pub posts: u8,
@@ -44,31 +45,29 @@ pub struct Post {
     pub order: u64,
 }
 
-// What a start hands back.
+// What a start hands back: a record in either case, since 01 gives one of zeros where it is refused (`started`).
 #[derive(Clone, Copy)]
 pub struct Started {
     pub post: Post,
-    pub number: u8,
+    pub outcome: Result<(), Refusal>,
 }
 
-// What a take, a return or a receive hands back.
-#[derive(Clone, Copy)]
-pub struct Answer {
-    pub post: Post,
-    pub number: u8,
+// Whether a frame was written, and whether the call brought the grant.
+#[derive(Clone, Copy, Debug, PartialEq, Eq)]
+pub struct Marks {
     pub wrote: bool,
     pub granted: bool,
 }
 
+// What a take, a return or a receive hands back: the next record, or the same one where it is refused.
 #[derive(Clone, Copy)]
-pub struct Value {
-    pub number: u8,
-    pub value: i64,
+pub struct Answer {
+    pub post: Post,
+    pub outcome: Result<Marks, Refusal>,
 }
 
-#[derive(Clone, Copy)]
+#[derive(Clone, Copy, Debug, PartialEq, Eq)]
 pub struct Missing {
-    pub number: u8,
     // bit r for post r
     pub set: u16,
     pub count: u32,
@@ -77,7 +76,7 @@ pub struct Missing {
 pub(crate) fn stamp(counter: u32, post: u8) -> u64
     ensures { result ≡ stamp_of counter post }
 {
-    256 * counter as u64 + post as u64
+    256 * u64::from(counter) + u64::from(post)
 }
 
 // The last counter there is.
@@ -93,7 +92,7 @@ impl Post {
     // The bytes of a frame.
     pub const FRAME: usize = frame::SIZE;
 
-    // The phases.
+    // The phases. The record's is a byte, which may be none of them: an enum would be no plainer where `sound` tests it.
     pub const IDLE: u8 = 0;
 
     pub const ASKED: u8 = 1;
@@ -122,12 +121,12 @@ impl Post {
     }
 
     pub fn start(start: Start) -> Started
-        ensures { result ≡ started start }
+        ensures { start_told result ≡ started start }
     {
         if rules::in_range(start) {
             return Started {
                 post: Self::fresh(start),
-                number: 0,
+                outcome: Ok(()),
             };
         }
         let none = Start {
@@ -138,7 +137,7 @@ impl Post {
         };
         Started {
             post: Self::fresh(none),
-            number: 1,
+            outcome: Err(Refusal::Record),
         }
     }
 
@@ -146,165 +145,141 @@ impl Post {
     pub fn sound(self) -> bool
         ensures { result ≡ sound self }
     {
+        self.is_sound()
+    }
+
+    fn is_sound(&self) -> bool
+        ensures { result ≡ sound self.now }
+    {
         self.checked().is_some()
     }
 
-    // Every answer is made here.
-    pub(crate) fn answered(self, number: u8, wrote: bool, granted: bool) -> Answer
-        ensures { result ≡ record { post = self; number = number; wrote = wrote; granted = granted } }
+    pub(crate) fn done(self, wrote: bool, granted: bool) -> Answer
+        ensures { answer_told result ≡ record { post = self; number = 0; wrote = wrote; granted = granted } }
     {
         Answer {
             post: self,
-            number,
-            wrote,
-            granted,
+            outcome: Ok(Marks { wrote, granted }),
         }
     }
 
-    fn refused(self, number: u8) -> Answer
-        ensures { result ≡ refused self number }
+    fn refused(self, refusal: Refusal) -> Answer
+        ensures { answer_told result ≡ refused self (number refusal) }
     {
-        self.answered(number, false, false)
+        Answer {
+            post: self,
+            outcome: Err(refusal),
+        }
     }
 
-    // An own message goes out in one phase alone; in another the number is `other`.
-    #[tactic(auto, unfolding(calls::specs::Table::phase_tests))]
-    fn own_number(self, from: u8, other: u8, len: usize) -> u8
-        ensures { result ≡ refusal (1 when not (sound self) ∷ phase_tests from other (view_of self) len) }
+    // An own message goes out in one phase alone.
+    #[tactic(auto, unfolding(crate::specs::Calls::own_rows, calls::specs::Table::phase_tests))]
+    fn check_own(&self, own: Own, len: usize) -> Result<(), Refusal>
+        ensures { number_in result ≡ refusal (own_rows own self.now len) }
     {
-        let sound = self.sound();
+        let sound = self.is_sound();
         if !sound {
-            return 1;
+            return Err(Refusal::Record);
         }
         if len < Self::FRAME {
-            return 2;
+            return Err(Refusal::Buffer);
         }
-        if self.phase != from {
-            return other;
+        let row = own.row();
+        if self.phase != row.from {
+            return Err(row.other);
         }
         if LAST <= self.clock {
-            return 11;
+            return Err(Refusal::Spent);
         }
-        0
+        Ok(())
+    }
+
+    // An own message is sent. Merged into take and give_back: called by them it costs 130 instructions and 1.3 KB of stack more.
+    #[inline(always)]
+    fn speak(mut self, own: Own, buf: &mut [u8]) -> Answer
+        ensures { Gives (spoke own self buf.old) result buf.new }
+    {
+        if let Err(refusal) = self.check_own(own, buf.len()) {
+            return self.refused(refusal);
+        }
+        let row = own.row();
+        let m = Message::new(row.kind, self.own, self.clock + 1);
+        let before = self.phase;
+        frame::write(buf, self.feeder, m).unwrap();
+        self.join(m, m.counter);
+        self.phase = row.to;
+        self.order = 0;
+        self.settled(before, true)
     }
 
     // A truck is plugged in.
     pub fn take(self, buf: &mut [u8]) -> Answer
-        ensures { Gives (spoke taking self buf.old) result buf.new }
+        ensures { Gives (spoke Taking self buf.old) result buf.new }
     {
-        let number = self.own_number(Self::IDLE, 13, buf.len());
-        if number != 0 {
-            return self.refused(number);
-        }
-        let m = Message {
-            kind: frame::TAKE,
-            sender: self.own,
-            counter: self.clock + 1,
-        };
-        let feeder = self.feeder;
-        let answer = self
-            .joined(m, m.counter, m.counter, Self::ASKED, 0)
-            .settled(self.phase, true);
-        frame::write(buf, feeder, m);
-        answer
+        self.speak(Own::Taking, buf)
     }
 
     // The truck is full.
     pub fn give_back(self, buf: &mut [u8]) -> Answer
-        ensures { Gives (spoke returning self buf.old) result buf.new }
+        ensures { Gives (spoke Returning self buf.old) result buf.new }
     {
-        let number = self.own_number(Self::HOLDING, 14, buf.len());
-        if number != 0 {
-            return self.refused(number);
-        }
-        let m = Message {
-            kind: frame::RETURN,
-            sender: self.own,
-            counter: self.clock + 1,
-        };
-        let feeder = self.feeder;
-        let answer = self
-            .joined(m, m.counter, m.counter, Self::IDLE, 0)
-            .settled(self.phase, true);
-        frame::write(buf, feeder, m);
-        answer
+        self.speak(Own::Returning, buf)
     }
 
-    // Takes in a take or return, and acknowledges it.
-    fn accept(self, m: Message, buf: &mut [u8]) -> Answer
-        requires { T (sound self) × (m.sender < self.posts) × T (counted m) × T (acks (view_of self) m) × (max self.clock m.counter < last_counter) × (size ≤ length buf.old) }
-        ensures { Gives (heard_from self m buf.old) result buf.new }
+    // A take or return comes in, and its acknowledgment goes out.
+    fn accept(&mut self, m: Message, buf: &mut [u8])
+        requires { T (sound self.old) × (m.sender < self.old.posts) × T (counted m) × T (acks (view_of self.old) m) × (max self.old.clock m.counter < last_counter) × (size ≤ length buf.old) }
+        ensures joins { self.new ≡ came self.old m }
+        ensures leaves { buf.new ≡ acknowledgment_of self.old m buf.old }
     {
-        let ack = Message {
-            kind: frame::ACK,
-            sender: self.own,
-            counter: messages::larger(self.clock, m.counter) + 1,
-        };
-        let feeder = self.feeder;
-        let answer = self
-            .joined(m, ack.counter, ack.counter, self.phase, self.order)
-            .settled(self.phase, true);
-        frame::write(buf, feeder, ack);
-        answer
+        let ack = Message::new(Kind::Ack, self.own, self.clock.max(m.counter) + 1);
+        frame::write(buf, self.feeder, ack).unwrap();
+        self.join(m, ack.counter);
     }
 
     // A frame has arrived.
-    pub fn receive(self, frame: &[u8], buf: &mut [u8]) -> Answer
+    pub fn receive(mut self, frame: &[u8], buf: &mut [u8]) -> Answer
         ensures { Gives (received self frame.now buf.old) result buf.new }
     {
-        let arrival = self.arrival(frame, buf.len());
-        let number = arrival.number;
-        if number != 0 {
-            return self.refused(number);
+        let m = match self.arrival(frame, buf.len()) {
+            Ok(m) => m,
+            Err(refusal) => return self.refused(refusal),
+        };
+        let before = self.phase;
+        let acknowledged = self.acknowledges(m);
+        if acknowledged {
+            self.accept(m, buf);
+        } else {
+            self.note(m);
         }
-        let m = arrival.message;
-        if self.acknowledges(m) {
-            return self.accept(m, buf);
-        }
-        self.noted(m).settled(self.phase, false)
+        self.settled(before, acknowledged)
     }
 
     // K + settled returns - settled takes.
-    pub fn value(self) -> Value
-        ensures { result ≡ valued self }
+    pub fn value(self) -> Result<i64, Refusal>
+        ensures { value_told result ≡ valued self }
     {
         if !self.sound() {
-            return Value {
-                number: 1,
-                value: 0,
-            };
+            return Err(Refusal::Record);
         }
-        Value {
-            number: 0,
-            value: (self.places as u64 + self.returns) as i64 - self.takes as i64,
-        }
+        Ok((self.places as u64 + self.returns) as i64 - self.takes as i64)
     }
 
     // The other posts whose last stamp is below the own unsettled take.
-    pub fn missing(self) -> Missing
-        ensures { result ≡ missed self }
+    pub fn missing(self) -> Result<Missing, Refusal>
+        ensures { missing_told result ≡ missed self }
     {
         if !self.sound() {
-            return Missing {
-                number: 1,
-                set: 0,
-                count: 0,
-            };
+            return Err(Refusal::Record);
         }
         if self.phase != Self::ASKED {
-            return Missing {
-                number: 0,
-                set: 0,
-                count: 0,
-            };
+            return Ok(Missing { set: 0, count: 0 });
         }
-        let slots = self.slots;
-        let t = slots::own_stamp(slots, self.waits as usize, self.own);
+        let t = self.own_stamp();
         let set = self.late(t);
-        Missing {
-            number: 0,
+        Ok(Missing {
             set,
-            count: u16::count_ones(set),
-        }
+            count: set.count_ones(),
+        })
     }
 }

@@ -1,58 +1,50 @@
 // The record with a message sent or received, before anything is settled.
-ghost use Rattle.std.specs.Prelude.{◌≡◌, ◌<◌, max, T};
+ghost use Rattle.std.specs.Prelude.{◌≡◌, ◌≤◌, ◌<◌, T};
+ghost use Rattle.post.specs.Record.{waiting_of};
 ghost use Rattle.post.specs.Sound.{sound};
+ghost use Rattle.post.specs.Calls.{own_stamp};
 ghost use Rattle.post.specs.Inside.{joined, noted};
 
-use crate::{Post, stamp};
+use crate::{Post, slots};
 use frame::Message;
 
-pub(crate) fn larger(a: u32, b: u32) -> u32
-    ensures { result ≡ max a b }
-{
-    if a < b {
-        return b;
-    }
-    a
-}
-
 impl Post {
-    // The record with the message m among the waiting and its sender's last counter set: from the newest down, those above m move one place up.
-    pub(crate) fn joined(mut self, m: Message, clock: u32, sent: u32, phase: u8, order: u64) -> Self
-        requires { T (sound self) × (m.sender < self.posts) }
-        ensures { result ≡ joined self m clock sent phase order }
+    // The messages that wait.
+    pub(crate) fn waiting(&self) -> &[Message]
+        requires { self.now.waits ≤ 62 }
+        ensures { result.now ≡ waiting_of self.now }
     {
-        let waits = self.waits;
-        let from = m.sender as usize;
-        let at = self.own as usize;
-        let t = stamp(m.counter, m.sender);
-        let mut i = waits as usize;
-        while 0 < i {
-            let old = self.slots[i - 1];
-            if stamp(old.counter, old.sender) <= t {
-                break;
-            }
-            self.slots[i] = old;
-            i -= 1;
-        }
-        self.slots[i] = m;
-        self.last[from] = m.counter;
-        self.last[at] = sent;
-        self.clock = clock;
-        self.waits = waits + 1;
-        self.phase = phase;
-        self.order = order;
-        self
+        &self.slots[..self.waits as usize]
     }
 
-    // The record with an acknowledgment received.
-    pub(crate) fn noted(mut self, m: Message) -> Self
-        requires { T (sound self) × (m.sender < self.posts) }
-        ensures { result ≡ noted self m }
+    // The stamp of the own take that waits; 0 where none does, as the definition `own_stamp` has it. It takes the record by value, for with `&self` `missing` needs 2088 bytes of stack.
+    pub(crate) fn own_stamp(self) -> u64
+        requires { self.waits ≤ 62 }
+        ensures { result ≡ own_stamp self.own (waiting_of self) }
     {
-        let from = m.sender as usize;
-        let c = larger(self.clock, m.counter);
-        self.last[from] = m.counter;
-        self.clock = c;
-        self
+        slots::own_stamp(self.waiting(), self.own).unwrap_or(0)
+    }
+
+    // A sound record and a sender of the feeder are required, not a type for them: between `join` and `settle` the record is not sound.
+    // A take or return joins those that wait, and the clock and the last counter sent are set to `clock`.
+    pub(crate) fn join(&mut self, m: Message, clock: u32)
+        requires { T (sound self.old) × (m.sender < self.old.posts) }
+        ensures { self.new ≡ joined self.old m clock }
+    {
+        let n = self.waits as usize;
+        slots::put(&mut self.slots[..=n], m);
+        self.waits += 1;
+        self.last[m.sender as usize] = m.counter;
+        self.last[self.own as usize] = clock;
+        self.clock = clock;
+    }
+
+    // An acknowledgment is received.
+    pub(crate) fn note(&mut self, m: Message)
+        requires { T (sound self.old) × (m.sender < self.old.posts) }
+        ensures { self.new ≡ noted self.old m }
+    {
+        self.last[m.sender as usize] = m.counter;
+        self.clock = self.clock.max(m.counter);
     }
 }

@@ -1,10 +1,12 @@
 // The rules of a sound record.
-ghost use Rattle.std.specs.Prelude.{◌≡◌, ◌+◌, leb};
+ghost use Rattle.std.specs.Prelude.{◌≡◌};
 ghost use Rattle.calls.specs.Start.{in_range};
-ghost use Rattle.post.specs.Sound.{own_fits, order_fits};
+ghost use Rattle.post.specs.Settle.{free};
+ghost use Rattle.post.specs.Sound.{own_fits, sum_fits, order_fits};
 
-use crate::Post;
+use crate::{Post, lasts};
 use calls::Start;
+use frame::Kind;
 
 #[tactic(auto, unfolding(calls::specs::Start::in_range))]
 pub(crate) fn in_range(start: Start) -> bool
@@ -13,41 +15,48 @@ pub(crate) fn in_range(start: Start) -> bool
     (1..=16).contains(&start.posts) && start.own < start.posts && (1..=16).contains(&start.places)
 }
 
+// The phase is the record's byte, and the rest what a look found, as the definition `own_fits` has them.
 #[tactic(auto, unfolding(crate::specs::Sound::own_fits))]
 pub(crate) fn own_fits(phase: u8, takes: u8, returns: u8, end: u8) -> bool
     ensures { result ≡ own_fits phase takes returns end }
 {
     match phase {
         Post::IDLE => takes == 0 && returns <= 1,
-        Post::ASKED => takes == 1 && returns <= 1 && end == frame::TAKE,
+        Post::ASKED => takes == 1 && returns <= 1 && end == Kind::Take as u8,
         _ => takes == 0 && returns == 0,
     }
 }
 
-// The three sum to at most `most`.
-pub(crate) fn sum_fits(takes: u64, returns: u64, waits: u8, most: u64) -> bool
-    ensures { result ≡ leb (takes + returns + waits) most }
-{
-    takes
-        .checked_add(returns)
-        .and_then(|n| n.checked_add(u64::from(waits)))
-        .is_some_and(|n| n <= most)
-}
+impl Post {
+    // Settled takes, settled returns and waiting messages sum to at most the sum of the last counters.
+    #[tactic(auto, unfolding(crate::specs::Sound::sum_fits), using(crate::proofs::Works::Rules::sum_is))]
+    pub(crate) fn sum_fits(&self) -> bool
+        ensures { result ≡ sum_fits self.now }
+    {
+        let most = lasts::sum(&self.last);
+        self.takes
+            .checked_add(self.returns)
+            .and_then(|n| n.checked_add(u64::from(self.waits)))
+            .is_some_and(|n| n <= most)
+    }
 
-// There is a place for the take of this order number.
-pub(crate) fn is_free(order: u64, places: u8, returns: u64) -> bool
-    ensures { result ≡ leb order (places + returns) }
-{
-    order.saturating_sub(returns) <= u64::from(places)
-}
+    // There is a place for the take of the order number.
+    #[tactic(auto, unfolding(crate::specs::Settle::free))]
+    pub(crate) fn is_free(&self) -> bool
+        ensures { result ≡ free self.now }
+    {
+        self.order.saturating_sub(self.returns) <= u64::from(self.places)
+    }
 
-#[tactic(auto, unfolding(crate::specs::Sound::order_fits))]
-pub(crate) fn order_fits(phase: u8, order: u64, takes: u64, free: bool) -> bool
-    ensures { result ≡ order_fits phase order takes free }
-{
-    match phase {
-        Post::IDLE | Post::ASKED => order == 0,
-        Post::HOLDING => (1..=takes).contains(&order) && free,
-        _ => (1..=takes).contains(&order) && !free,
+    #[tactic(auto, unfolding(crate::specs::Sound::order_fits))]
+    pub(crate) fn order_fits(&self) -> bool
+        ensures { result ≡ order_fits self.now.phase self.now.order self.now.takes (free self.now) }
+    {
+        let free = self.is_free();
+        match self.phase {
+            Self::IDLE | Self::ASKED => self.order == 0,
+            Self::HOLDING => (1..=self.takes).contains(&self.order) && free,
+            _ => (1..=self.takes).contains(&self.order) && !free,
+        }
     }
 }

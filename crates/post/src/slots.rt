@@ -1,22 +1,20 @@
 // Messages in the slots.
-ghost use Rattle.std.specs.Prelude.{◌≡◌, cond, ◌&&◌, ◌≤◌, ◌<◌, ◌+◌, ◌^◌, eqb, take, length};
-ghost use Rattle.laws.specs.Lists.{leading};
-ghost use Rattle.laws.specs.Below.{one?};
-ghost use Rattle.frame.specs.Message.{is_take, counted, stamp, by};
+ghost use Rattle.std.specs.Prelude.{◌≡◌, take, ◌≤◌, ◌<◌, ◌+◌, ◌^◌, length, ◌-◌, ◌++◌, drop, replicate, option_map};
+ghost use Rattle.std.specs.List.{find, list_all};
+ghost use Rattle.laws.specs.Lists.{leading, put, Rising};
+ghost use Rattle.frame.specs.Message.{blank, counted, stamp, own_take};
 ghost use Rattle.post.specs.Sound.{fair, is_blank};
-ghost use Rattle.std.specs.List.{list_all};
-ghost use Rattle.post.specs.Calls.{own_stamp};
 ghost use Rattle.post.specs.Inside.{InBounds, in_order, Looked, Left};
 
 use crate::{Post, stamp};
-use frame::Message;
+use frame::{Kind, Message};
 
 // What a look over the slots finds of the messages that wait there.
 #[derive(Clone, Copy)]
 pub(crate) struct Seen {
     // how many of each sender
     pub counts: [u8; 16],
-    // the own takes and returns, and the kind of the last of them
+    // the own takes and returns, and the kind of the last of them, by its number as the definition `own_fits` has it
     pub takes: u8,
     pub returns: u8,
     pub end: u8,
@@ -25,7 +23,7 @@ pub(crate) struct Seen {
 pub(crate) fn is_counted(m: Message) -> bool
     ensures { result ≡ counted m }
 {
-    matches!(m.kind, frame::TAKE | frame::RETURN)
+    matches!(Kind::try_from(m.kind), Ok(Kind::Take | Kind::Return))
 }
 
 // A take or return, of one of the posts with these last counters, and its counter from 1 to that post's last.
@@ -68,7 +66,7 @@ impl Post {
             top = t;
             seen.counts[m.sender as usize] += 1;
             if m.sender == self.own {
-                if m.kind == frame::TAKE {
+                if m.kind == Kind::Take as u8 {
                     seen.takes += 1;
                 } else {
                     seen.returns += 1;
@@ -80,104 +78,76 @@ impl Post {
     }
 }
 
-// What of the first n is settled: how many, and the counts with it.
+// What of those that wait is settled: how many, and the counts with it.
 #[derive(Clone, Copy)]
 pub(crate) struct Gone {
     pub count: usize,
     pub takes: u64,
     pub returns: u64,
-    // the own take's number; 0 where it is not among them
-    pub order: u64,
+    // the own take's number, if it is among them
+    pub order: Option<u64>,
 }
 
-fn one_kind(n: u64, kind: u8, m: Message) -> u64
-    requires { n < 2 ^ 63 }
-    ensures { result ≡ n + one? (eqb m.kind kind) }
+// Those that wait up to the floor leave, after so many takes. In one loop: with a chain for each count, a call that settles 58 needs 5397 instructions for 4105, beyond its limit.
+pub(crate) fn leaving(waiting: &[Message], floor: u64, own: u8, takes: u64) -> Gone
+    requires { (length waiting.now ≤ 62) × (takes < 2 ^ 62) }
+    ensures { Left own takes (leading stamp floor waiting.now) result }
 {
-    if m.kind == kind {
-        return n + 1;
-    }
-    n
-}
-
-fn number_of(order: u64, takes: u64, own: u8, m: Message) -> u64
-    requires { takes < 2 ^ 63 }
-    ensures { result ≡ cond (by own m && (is_take m && eqb order 0)) (takes + 1) order }
-{
-    if m.sender != own {
-        return order;
-    }
-    if m.kind != frame::TAKE {
-        return order;
-    }
-    if order != 0 {
-        return order;
-    }
-    takes + 1
-}
-
-pub(crate) fn leaving(slots: [Message; 62], n: usize, floor: u64, own: u8, takes: u64) -> Gone
-    requires { (n ≤ 62) × (takes < 2 ^ 62) }
-    ensures { Left own takes (leading stamp floor (take n slots)) result }
-{
-    let mut tk = takes;
-    let mut rt = 0u64;
-    let mut order = 0u64;
-    let mut i = 0;
-    while i < n {
-        let m = slots[i];
+    let mut gone = Gone {
+        count: 0,
+        takes,
+        returns: 0,
+        order: None,
+    };
+    for m in waiting {
         if floor < stamp(m.counter, m.sender) {
-            return Gone {
-                count: i,
-                takes: tk,
-                returns: rt,
-                order,
-            };
+            break;
         }
-        order = number_of(order, tk, own, m);
-        tk = one_kind(tk, frame::TAKE, m);
-        rt = one_kind(rt, frame::RETURN, m);
-        i += 1;
+        gone.count += 1;
+        if m.kind == Kind::Take as u8 {
+            gone.takes += 1;
+            if m.sender == own {
+                gone.order = gone.order.or(Some(gone.takes));
+            }
+        } else if m.kind == Kind::Return as u8 {
+            gone.returns += 1;
+        }
     }
-    Gone {
-        count: i,
-        takes: tk,
-        returns: rt,
-        order,
-    }
+    gone
 }
 
-// Where moving begins when k of n leave: at n, so not at all, where none does.
-pub(crate) fn first_moved(k: usize, n: usize) -> usize
-    ensures { result ≡ cond (eqb k 0) n 0 }
+// The first k of those that wait leave: the others move to the front, and zeros stand after them.
+pub(crate) fn leave(waiting: &mut [Message], k: usize)
+    requires { k ≤ length waiting.old }
+    ensures { waiting.new ≡ drop k waiting.old ++ replicate k blank }
 {
+    // in most calls none leaves, and nothing is moved
     if k == 0 {
-        return n;
+        return;
     }
-    0
+    let left = waiting.len() - k;
+    waiting.copy_within(k.., 0);
+    waiting[left..].fill(frame::BLANK);
 }
 
-fn is_own_take(own: u8, m: Message) -> bool
-    ensures { result ≡ (by own m && is_take m) }
+// m is put among those that wait, in the order of stamps; the last of the slots is free for it.
+pub(crate) fn put(slots: &mut [Message], m: Message)
+    requires { (0 < length slots.old) × Rising stamp (take (length slots.old - 1) slots.old) }
+    ensures { slots.new ≡ put stamp m (take (length slots.old - 1) slots.old) }
 {
-    if m.sender != own {
-        return false;
-    }
-    m.kind == frame::TAKE
+    let n = slots.len() - 1;
+    let t = stamp(m.counter, m.sender);
+    let i = slots[..n].partition_point(|w| stamp(w.counter, w.sender) <= t);
+    slots.copy_within(i..n, i + 1);
+    slots[i] = m;
 }
 
-// The stamp of the own take among the first n; 0 where it is not there.
-pub(crate) fn own_stamp(slots: [Message; 62], n: usize, own: u8) -> u64
-    requires { n ≤ 62 }
-    ensures { result ≡ own_stamp own (take n slots) }
+// The stamp of the own take among those that wait.
+pub(crate) fn own_stamp(waiting: &[Message], own: u8) -> Option<u64>
+    ensures { result ≡ option_map stamp (find (own_take own) waiting.now) }
 {
-    let mut i = 0;
-    while i < n {
-        let m = slots[i];
-        if is_own_take(own, m) {
-            return stamp(m.counter, m.sender);
-        }
-        i += 1;
-    }
-    0
+    waiting
+        .iter()
+        .find(|m| m.sender == own && m.kind == Kind::Take as u8)
+        .map(|m| stamp(m.counter, m.sender))
 }

@@ -36,14 +36,11 @@ impl Post {
         fits.then_some(seen)
     }
 
-    #[tactic(auto, unfolding(crate::specs::Sound::count_rules, crate::specs::Sound::sum_fits, crate::specs::Settle::free), using(crate::proofs::Works::Rules::sum_is))]
+    #[tactic(auto, unfolding(crate::specs::Sound::count_rules))]
     fn counts_sound(&self) -> bool
         ensures { result ≡ every (count_rules self.now) }
     {
-        let most = lasts::sum(&self.last);
-        let free = rules::is_free(self.order, self.places, self.returns);
-        rules::sum_fits(self.takes, self.returns, self.waits, most)
-            && rules::order_fits(self.phase, self.order, self.takes, free)
+        self.sum_fits() && self.order_fits()
     }
 
     // None where one of document 01's rules does not hold, and else what waits.

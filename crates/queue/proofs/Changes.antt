@@ -10,7 +10,8 @@ use Rattle.laws.specs.Ladder.{refusal}
 use Rattle.laws.proofs.RefusalLaws.{unless_both}
 use Rattle.frame.specs.Message.{last_counter}
 use Rattle.frame.specs.Frame.{fields_of}
-use Rattle.calls.specs.Own.{Own, row_of}
+use Rattle.calls.specs.declared.Own.{Own}
+use Rattle.calls.specs.Own.{row_of}
 use Rattle.calls.specs.Table.{own_tests, receive_tests}
 use Rattle.calls.proofs.Passing.{own_known, own_passed, receive_passed}
 use Rattle.calls.specs.declared.Start.{Start}

@@ -15,7 +15,7 @@ use Rattle.frame.specs.declared.Message.{Message}
 use Rattle.frame.specs.Message.{msg, is_return, counted, known, last_counter, stamp, by, own_return}
 use Rattle.frame.specs.Frame.{fields_of}
 use Rattle.frame.specs.Demand2.{InWidth}
-use Rattle.calls.specs.Own.{taking, returning}
+use Rattle.calls.specs.declared.Own.TheVariants.{Taking, Returning}
 use Rattle.calls.specs.declared.Start.{Start}
 use Rattle.queue.specs.Queue.{Queue, clock, heard, waiting, latest}
 use Rattle.calls.specs.Replies.{Call, own_call, receive_call, value_call, missing_call}
@@ -136,22 +136,22 @@ module _ (st : Start) (q : Queue) (m : Message) (k : Fitting st q) (w : New st q
 pub fitting_change : (st : Start) (c : Call) (q q' : Queue) → CounterFits c → Change st q c q' → Fitting st q → Fitting st q'
 unfolding saying
 fitting_change st c q q' f unchanged k = k
-fitting_change st c q q' f (spoke {o = taking} z l) k =
+fitting_change st c q q' f (spoke {o = Taking} z l) k =
     let own = said st q k 1 tt tt (own_return st.own) in
     let none = ap one? (and-false (by st.own (saying st 1 q))) in
     let old = k.own in
     record {
-      kept = kept_change st c q q' (spoke {o = taking} z l) k.kept;
+      kept = kept_change st c q q' (spoke {o = Taking} z l) k.kept;
       few = others_few st q k 1 tt tt;
       own = omega arith;
       width = let e = clock-say st 1 q in omega arith;
     }
-fitting_change st c q q' f (spoke {o = returning} z l) k =
+fitting_change st c q q' f (spoke {o = Returning} z l) k =
     let own = said st q k 2 tt tt (own_return st.own) in
     let none = none_held st q k.kept z in
     let one = one_most (own_return st.own (saying st 2 q)) in
     record {
-      kept = kept_change st c q q' (spoke {o = returning} z l) k.kept;
+      kept = kept_change st c q q' (spoke {o = Returning} z l) k.kept;
       few = others_few st q k 2 tt tt;
       own = omega arith;
       width = let e = clock-say st 2 q in omega arith;

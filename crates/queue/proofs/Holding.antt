@@ -15,7 +15,7 @@ use Rattle.laws.proofs.BelowLaws.{sum_to_cong, sum_to-add}
 use Rattle.laws.proofs.ListLaws.{in_cast, keep-keep}
 use Rattle.frame.specs.Message.{ack_kind, is_return, stamp, by, own_return}
 use Rattle.frame.specs.Frame.{fields_of}
-use Rattle.calls.specs.Own.{taking, returning}
+use Rattle.calls.specs.declared.Own.TheVariants.{Taking, Returning}
 use Rattle.calls.specs.declared.Start.{Start}
 use Rattle.queue.specs.Queue.{Queue, settled, grants, latest, phase}
 use Rattle.calls.specs.Replies.{Call, receive_call}
@@ -54,11 +54,11 @@ no_return st q q' e h = let a = ap length e in let b = one_more (holds st q) (ho
 turned : (st : Start) (c : Call) (q q' : Queue) → Good st q → Change st q c q' → Turned st q q'
 unfolding saying grant_came
 turned st c q q' g unchanged = no_return st q q refl (λ z. z)
-turned st c q q' g (spoke {o = taking} z l) =
+turned st c q q' g (spoke {o = Taking} z l) =
     let t = saying st 1 q in
     no_return st q q' (keep-say_no st q (own_return st.own) 1 (not_T (own_return st.own t) (and_r (by st.own t) (is_return t))))
     (λ y. absurd (let a = eqb→eq (phase st q) 0 z in let b = eqb→eq (phase st q) 3 y in omega arith))
-turned st c q q' g (spoke {o = returning} z l) =
+turned st c q q' g (spoke {o = Returning} z l) =
     let t = saying st 2 q in
     let k = ap length (keep-say-last st q (own_return st.own) g.sorted 2 (yes_and (by st.own t) (is_return t) (eqb_refl st.own) tt)) in
     let a = length-append (keep (own_return st.own) q) (t ∷ []) in

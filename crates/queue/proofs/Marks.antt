@@ -17,7 +17,7 @@ use Rattle.laws.proofs.RisingLaws.{rising_unique, rising_same, rising_snoc, in_p
 use Rattle.frame.specs.declared.Message.{Message}
 use Rattle.frame.specs.Message.{ack_kind, is_take, is_return, stamp, by}
 use Rattle.frame.specs.Frame.{fields_of}
-use Rattle.calls.specs.Own.{taking, returning}
+use Rattle.calls.specs.declared.Own.TheVariants.{Taking, Returning}
 use Rattle.calls.specs.Table.{own_tests, receive_tests}
 use Rattle.calls.specs.declared.Start.{Start}
 use Rattle.queue.specs.Queue.{Queue, grants, latest, phase}
@@ -68,7 +68,7 @@ module _ (st : Start) (q : Queue) (g : Good st q) where
   pub step : (c : Call) (q' : Queue) → Change st q c q' → Paid st q → Step st q q'
   unfolding saying
   step c q' unchanged p = record { takes_of = p; held = λ y. same-latest q refl }
-  step c q' (spoke {o = taking} z l) p =
+  step c q' (spoke {o = Taking} z l) p =
       let t = saying st 1 q in
       let e = latest-said st q g.sorted 1 tt in
       record {
@@ -82,7 +82,7 @@ module _ (st : Start) (q : Queue) (g : Good st q) where
           λ i. absurd (let h = say_above st q g.sorted 1 t (grants_in st q t (in_cast (grants st q) e i)).here in omega arith),
         );
       }
-  step c q' (spoke {o = returning} z l) p = record {
+  step c q' (spoke {o = Returning} z l) p = record {
     takes_of = λ m i o y.
         ⊎_elim
         (λ d. absurd (take_cast d y))

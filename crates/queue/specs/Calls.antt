@@ -2,7 +2,7 @@
 use Rattle.std.specs.Prelude.{Bool, true, not, cond, ◌&&◌, List, ℕ, suc, eqb, length}
 use Rattle.laws.specs.{Ladder.{unless}, Lists.{many, put}, Below.{count_to, bits_to}}
 use Rattle.frame.specs.{declared.Message.{Message}, Message.{msg, ack_kind, stamp, by}, Frame.{over, fields_of}}
-use Rattle.calls.specs.{declared.Start.{Start}, Own.{Own, row_of}, View.{View, acks}, Table.{own_tests, receive_tests}}
+use Rattle.calls.specs.{declared.Start.{Start}, declared.Own.{Own}, Own.{row_of}, View.{View, acks}, Table.{own_tests, receive_tests}}
 use Rattle.calls.specs.Replies.{Call, own_call, receive_call, value_call, missing_call, told, worth, lacking, Answer, refused}
 use Rattle.queue.specs.Queue.{Queue, clock, last, waiting, phase, value, lacks}
 

@@ -2,7 +2,7 @@
 use Rattle.std.specs.Prelude.{not, cond, ◌&&◌, List, [], ◌∷◌, ℕ, ◌<◌, T, ltb, eqb, length, drop, replicate}
 use Rattle.laws.specs.{Lists.{keep, many}, Below.{sum_to, count_to}}
 use Rattle.frame.specs.{declared.Message.{Message}, Message.{is_return, by}, Frame.{size, frame}}
-use Rattle.calls.specs.{declared.Start.{Start}, Start.{in_range}, Own.{Own}, Replies.{Call, own_call, receive_call}}
+use Rattle.calls.specs.{declared.Start.{Start}, Start.{in_range}, declared.Own.{Own}, Replies.{Call, own_call, receive_call}}
 use Rattle.queue.specs.{Queue.{Queue, grants, phase}, Calls.{on_queue}}
 
 -- what the posts of a feeder are started with alike

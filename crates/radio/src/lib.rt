@@ -17,26 +17,36 @@ pub extern "C" fn fpm_read(
 ) -> u8
     ensures { Read frame.now result feeder.new kind.new sender.new counter.new }
 {
-    let got = frame::read(frame);
-    let m = got.message;
-    *feeder = got.feeder;
-    *kind = m.kind;
-    *sender = m.sender;
-    *counter = m.counter;
-    got.number
+    match frame::read(frame) {
+        Ok(got) => {
+            let m = got.message;
+            *feeder = got.feeder;
+            *kind = m.kind;
+            *sender = m.sender;
+            *counter = m.counter;
+            0
+        }
+        Err(refusal) => {
+            *feeder = 0;
+            *kind = 0;
+            *sender = 0;
+            *counter = 0;
+            refusal.number()
+        }
+    }
 }
 
 #[unsafe(no_mangle)]
 pub extern "C" fn fpm_write(buf: &mut [u8], feeder: u8, kind: u8, sender: u8, counter: u32) -> u8
     ensures { Written buf.old buf.new feeder (msg kind sender counter) result }
 {
-    frame::write(
-        buf,
-        feeder,
-        Message {
-            kind,
-            sender,
-            counter,
-        },
-    )
+    let m = Message {
+        kind,
+        sender,
+        counter,
+    };
+    match frame::write(buf, feeder, m) {
+        Ok(()) => 0,
+        Err(refusal) => refusal.number(),
+    }
 }

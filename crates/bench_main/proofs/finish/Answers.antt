@@ -5,7 +5,7 @@ use Rattle.bench.proofs.Fits.{ended_fits}
 use Rattle.bench_main.proofs.finish.Goals as goal
 
 pub slice_bounds-out-end : goal.slice_bounds-out-end
-slice_bounds-out-end g c = ended_fits _ _ _ _ c.finish-f.ensures
+slice_bounds-out-end g c = ended_fits _ _ _ _ c.finish.ensures _ c.in-Some.is
 
 pub slice_bounds-write_all-end : goal.slice_bounds-write_all-end
-slice_bounds-write_all-end g c = sym (length-take-le c.finish-f.result.written c.finish-f.new.out (ended_fits _ _ _ _ c.finish-f.ensures))
+slice_bounds-write_all-end g c = sym (length-take-le _ _ (ended_fits _ _ _ _ c.finish.ensures _ c.in-Some.is))

@@ -1,24 +1,16 @@
-use borrow.Author.Tests.{eq-eqb, ne_eqb}
-use Prim.Native.Nat.{ℕ}
-use mathlib.Core.Path.{◌≡◌, refl, ◌∙◌, ap, ap₂}
-use mathlib.Core.List.{List}
-use lib.ListN.{length}
-use Rattle.laws.specs.Ladder.{refusal}
-use Rattle.laws.proofs.Ladders.{on, off}
-use Rattle.frame.specs.declared.Fields.{Fields}
-use Rattle.frame.specs.Frame.{fields_of, read_rows, reading, read_frame}
+use Rattle.std.proofs.lemmas.Result.{err_from_is_err_and}
+use Rattle.frame.proofs.ReadLaws.{bad_form, bad_message, good_frame}
 use Rattle.frame.proofs.read.Goals as goal
 
-is_read : (s : List ℕ) (n : ℕ) (f : Fields) → f ≡ fields_of s → n ≡ refusal (read_rows (length s) f) → reading n f ≡ read_frame s
-unfolding read_frame
-is_read s n f p e = ap₂ reading (e ∙ ap (λ (x : Fields). refusal (read_rows (length s) x)) p) p
+pub returns-in_err-check_form : goal.returns-in_err-check_form
+returns-in_err-check_form c =
+    let p = err_from_is_err_and c.from_residual.result c.from_residual.ensures.1 in
+    rw (p.1, p.2) (bad_form _ c.split-f.ensures _ c.in_err-check_form.ensures)
 
-pub returns-then-number-ne0 : goal.returns-then-number-ne0
-returns-then-number-ne0 c =
-    let r = c.read_number-number in
-    off _ _ _ (ne_eqb r.result 0 c.if-number-ne0.true) refl ∙ is_read _ _ _ c.split-f.ensures r.ensures
+pub returns-in_err-check_message : goal.returns-in_err-check_message
+returns-in_err-check_message c =
+    let p = err_from_is_err_and c.from_residual-in_err-check_message.result c.from_residual-in_err-check_message.ensures.1 in
+    rw (p.1, p.2) (bad_message _ c.split-f.ensures c.in_ok-check_form.ensures _ c.in_err-check_message.ensures)
 
 pub returns : goal.returns
-returns c =
-    let r = c.read_number-number in
-    on _ _ _ (eq-eqb r.result 0 c.if-number-ne0.false) refl ∙ is_read _ _ _ c.split-f.ensures r.ensures
+returns c = good_frame _ c.split-f.ensures c.in_ok-check_form.ensures c.in_ok-check_message.ensures

@@ -1,13 +1,14 @@
-use mathlib.Core.Path.{◌∙◌, sym}
-use Rattle.frame.proofs.Stored.{room, done, kept}
+use Rattle.std.proofs.lemmas.Result.{err_from_is_err_and}
+use Rattle.frame.proofs.Stored.{short, bad_message, written}
 use Rattle.frame.proofs.write.Goals as goal
 
-pub store-requires : goal.store-requires
-store-requires c = room _ _ (sym c.write_number-number.ensures ∙ c.if-number-eq0.true)
+pub returns-then-buf-lt-SIZE : goal.returns-then-buf-lt-SIZE
+returns-then-buf-lt-SIZE c = short _ _ _ c.if-buf-lt-SIZE.true
 
-pub returns-then-number-eq0 : goal.returns-then-number-eq0
-returns-then-number-eq0 c =
-    done _ _ _ c.write_number-number.ensures c.if-number-eq0.true c.store.ensures
+pub returns-in_err-check_message : goal.returns-in_err-check_message
+returns-in_err-check_message c =
+    let p = err_from_is_err_and c.from_residual.result c.from_residual.ensures.1 in
+    rw (p.1, p.2) (bad_message _ _ _ c.if-buf-lt-SIZE.false _ c.in_err-check_message.ensures)
 
-pub returns-else-number-eq0 : goal.returns-else-number-eq0
-returns-else-number-eq0 c = kept _ _ _ c.write_number-number.ensures c.if-number-eq0.false
+pub returns : goal.returns
+returns c = written _ _ _ c.if-buf-lt-SIZE.false c.in_ok-check_message.ensures c.store.ensures

@@ -13,7 +13,7 @@ use Rattle.laws.proofs.LeastLaws.{least_le, le_least, least_mono}
 use Rattle.frame.specs.declared.Message.{Message}
 use Rattle.frame.specs.Message.{stamp_of, stamp}
 use Rattle.frame.specs.Frame.{fields_of}
-use Rattle.calls.specs.Own.{Own}
+use Rattle.calls.specs.declared.Own.{Own}
 use Rattle.calls.specs.View.{acks}
 use Rattle.post.specs.declared.Post.{Post}
 use Rattle.post.specs.Record.{last_of, floor, remade}

@@ -17,7 +17,9 @@ use Rattle.laws.proofs.CountLaws.{many-put}
 use Rattle.frame.specs.declared.Message.{Message}
 use Rattle.frame.specs.Message.{last_counter, stamp, is_take, is_return, counted, by, own_take, own_return}
 use Rattle.frame.specs.Frame.{fields_of}
-use Rattle.calls.specs.Own.{Own, taking, returning, row_of}
+use Rattle.calls.specs.declared.Own.{Own}
+use Rattle.calls.specs.declared.Own.TheVariants.{Taking, Returning}
+use Rattle.calls.specs.Own.{row_of}
 use Rattle.calls.specs.View.{acks}
 use Rattle.calls.proofs.Passing.{own_counted_lem, Speaks, Comes}
 use Rattle.post.specs.declared.Post.{Post}
@@ -56,23 +58,23 @@ module _ (p : Post) (k : Kept p) (s : Sound p) where
     said_end = end_kind-put-last p.own 0 said (waiting_of p) (eqb_refl p.own) (waiting_below p s)
 
   spoken-kept : (o : Own) (n : ℕ) → Speaks o (view_of p) n → Kept (settle (spoken o p))
-  spoken-kept taking n h = said-kept taking n h (go (standing p s)) (λ e. omega arith)
+  spoken-kept Taking n h = said-kept Taking n h (go (standing p s)) (λ e. omega arith)
     where
-      go : Stands p.own p.phase p.order p.takes (waiting_of p) → Stands p.own 1 0 p.takes (put stamp (said taking n h) (waiting_of p))
+      go : Stands p.own p.phase p.order p.takes (waiting_of p) → Stands p.own 1 0 p.takes (put stamp (said Taking n h) (waiting_of p))
       go (idle e o a b) =
-          let m = said taking n h in
+          let m = said Taking n h in
           let x = many-put (own_take p.own) stamp m (waiting_of p) in
           let x1 : one? (own_take p.own m) ≡ 1 = rw (eq-eqb p.own p.own refl) in
           let y = many-put (own_return p.own) stamp m (waiting_of p) in
           let y1 : one? (own_return p.own m) ≡ 0 = rw (eq-eqb p.own p.own refl) in
-          asked refl refl (omega arith) (omega arith) (said_end taking n h)
+          asked refl refl (omega arith) (omega arith) (said_end Taking n h)
       go (asked e o a b c) = absurd (let f = h.phase in omega arith)
       go (numbered l u lo hi a b) = absurd (let f = h.phase in omega arith)
-  spoken-kept returning n h = said-kept returning n h (go (standing p s)) (λ e. omega arith)
+  spoken-kept Returning n h = said-kept Returning n h (go (standing p s)) (λ e. omega arith)
     where
-      go : Stands p.own p.phase p.order p.takes (waiting_of p) → Stands p.own 0 0 p.takes (put stamp (said returning n h) (waiting_of p))
+      go : Stands p.own p.phase p.order p.takes (waiting_of p) → Stands p.own 0 0 p.takes (put stamp (said Returning n h) (waiting_of p))
       go (numbered l u lo hi a b) =
-          let m = said returning n h in
+          let m = said Returning n h in
           let x = many-put (own_take p.own) stamp m (waiting_of p) in
           let x1 : one? (own_take p.own m) ≡ 0 = rw (eq-eqb p.own p.own refl) in
           let y = many-put (own_return p.own) stamp m (waiting_of p) in

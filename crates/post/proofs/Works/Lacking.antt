@@ -1,6 +1,9 @@
 -- The set of missing posts, from what the code works out. Assumes nothing.
-use mathlib.Core.Path.{◌≡◌, ap, ◌∙◌, sym}
-use mathlib.Core.Bool.{Bool, true, false, not, ◌&&◌}
+use mathlib.Core.Path.{◌≡◌, refl, ap, ◌∙◌, sym}
+use mathlib.Core.Bool.{Bool, true, false, cond, not, ◌&&◌}
+use mathlib.Core.List.{List, [], ◌∷◌}
+use Rattle.std.specs.Prelude.{Option, unwrap_or, option_map, Some}
+use Rattle.std.specs.List.{find}
 use Prim.Native.Nat.{ℕ}
 use borrow.Author.Tests.{eq-eqb, ne_eqb}
 use lib.Count.{ones}
@@ -9,14 +12,28 @@ use lib.ListN.{get_or}
 use Rattle.laws.specs.Below.{count_to, bits_to}
 use Rattle.laws.proofs.Ladders.{on}
 use Rattle.laws.proofs.BitLaws.{ones_bits, bits_cong, bits_none, count_none}
-use Rattle.frame.specs.Message.{stamp_of}
+use Rattle.frame.specs.declared.Message.{Message}
+use Rattle.frame.specs.Message.{stamp_of, stamp, own_take}
 use Rattle.post.specs.declared.Post.{Post}
-use Rattle.post.specs.declared.Missing.{Missing}
 use Rattle.post.specs.Record.{waiting_of}
 use Rattle.post.specs.Sound.{sound}
-use Rattle.post.specs.Calls.{own_stamp, lacks, missed}
+use Rattle.post.specs.Calls.{MissingTold, own_stamp, lacks, missed}
 
-abbrev none : Missing
+stamp_found : (own : ℕ) (ms : List Message) → unwrap_or (option_map stamp (find (own_take own) ms)) 0 ≡ own_stamp own ms
+unfolding own_stamp
+stamp_found own [] = refl
+stamp_found own (m ∷ ms) = go (own_take own m) (stamp_found own ms)
+  where
+    go : (t : Bool) → unwrap_or (option_map stamp (find (own_take own) ms)) 0 ≡ own_stamp own ms
+        → unwrap_or (option_map stamp (cond t (Some m) (find (own_take own) ms))) 0 ≡ cond t (stamp m) (own_stamp own ms)
+    go true e = refl
+    go false e = e
+
+-- the stamp that the code finds among those that wait, or else 0
+pub own_found : (own : ℕ) {ws ms : List Message} {o : Option ℕ} {t : ℕ} → ws ≡ ms → o ≡ option_map stamp (find (own_take own) ws) → t ≡ unwrap_or o 0 → t ≡ own_stamp own ms
+own_found own {ws} e f g = g ∙ ap (λ (o : Option ℕ). unwrap_or o 0) f ∙ stamp_found own ws ∙ ap (own_stamp own) e
+
+abbrev none : MissingTold
 none = record { number = 0; set = 0; count = 0 }
 
 -- outside phase 1 none is missing

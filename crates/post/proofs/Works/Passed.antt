@@ -7,7 +7,7 @@ use native.Mathlib.Omega.{arith}
 use lib.Dec.{T}
 use Rattle.laws.specs.Ladder.{refusal}
 use Rattle.frame.specs.Frame.{fields_of}
-use Rattle.calls.specs.Own.{Own}
+use Rattle.calls.specs.declared.Own.{Own}
 use Rattle.calls.proofs.Passing.{Speaks, own_passed, Comes, receive_passed}
 use Rattle.post.specs.declared.Post.{Post}
 use Rattle.post.specs.Sound.{sound}

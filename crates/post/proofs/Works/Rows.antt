@@ -14,9 +14,10 @@ use Rattle.frame.specs.declared.Message.{Message}
 use Rattle.frame.specs.Frame.{size, fields_of, form_rows}
 use Rattle.calls.specs.View.{View}
 use Rattle.calls.specs.Table.{sender_tests, turn_tests, receive_tests}
-use Rattle.frame.specs.Message.{blank}
+use Rattle.std.specs.Prelude.{Err}
+use Rattle.frame.specs.declared.refusal.Refusal.{Refusal}
+use Rattle.frame.specs.Refusal.{number}
 use Rattle.post.specs.declared.Post.{Post}
-use Rattle.post.specs.declared.arrivals.Arrival.{Arrival}
 use Rattle.post.specs.Sound.{sound}
 use Rattle.post.specs.Calls.{view_of, receive_rows}
 use Rattle.post.specs.Inside.{Arrives}
@@ -63,8 +64,8 @@ module _ (p : Post) (s : List ℕ) (n : ℕ) (f : Fields) (e : f ≡ fields_of s
       sent-by w h = here (h ∙ first_passes (from f.message) (turn f.message) (quiet (from f.message) tt (sym eb ∙ w)))
 
 -- a frame that is not taken
-pub refuses : {p : Post} {s : List ℕ} {n k : ℕ} {a : Arrival} → a ≡ record { number = k; message = blank } → (k ≡ 0 → ⊥) → k ≡ refusal (receive_rows p s n) → Arrives p s n a
-refuses e d r = let k = ap (λ (x : Arrival). x.number) e in record { number = k ∙ r; message = λ z. absurd (d (sym k ∙ z)) }
+pub refuses : {p : Post} {s : List ℕ} {n : ℕ} (r : Refusal) → number r ≡ refusal (receive_rows p s n) → Arrives p s n (Err r)
+refuses r e = record { number = e; message = tt }
 
 -- a sender that the rows let pass is on the feeder
 pub on_feeder : (v : View) (m : Message) → refusal (sender_tests v m) ≡ 0 → m.sender < v.start.posts

@@ -1,13 +1,13 @@
--- A line is its guess or no command. Assumes nothing.
-use mathlib.Core.Path.{◌∙◌, sym}
-use Rattle.bench.proofs.Guessing.{is_command, out_of_range, not_command}
+-- What is read of the line, if it is in range. Assumes nothing.
+use Rattle.std.proofs.Common.{rules, ◌≡◌, ap, ◌∙◌}
+use Rattle.std.specs.Prelude.{option_and_then}
+use Rattle.std.specs.Bool.{then_some}
+use Rattle.bench.specs.Lines.{in_range_for, kept}
+use Rattle.bench.specs.Inside.{parsed_command}
+use Rattle.bench.proofs.Parsing.{command_read}
 use Rattle.bench.proofs.lines.read_command.Goals as goal
 
-pub returns-then-not-in_range : goal.returns-then-not-in_range
-returns-then-not-in_range c = sym (out_of_range _ _ _ c.guess_command-c.ensures (sym c.in_range.ensures ∙ c.if-not-in_range.true))
-
-pub returns-then-is_command : goal.returns-then-is_command
-returns-then-is_command c = sym (is_command _ _ _ c.guess_command-c.ensures (sym c.in_range.ensures ∙ c.if-not-in_range.false) (sym c.is_command.ensures ∙ c.if-is_command.true))
-
 pub returns : goal.returns
-returns c = sym (not_command _ _ _ c.guess_command-c.ensures (sym c.is_command.ensures ∙ c.if-is_command.false))
+returns c =
+    let e : c.filter.result ≡ option_and_then (λ x. then_some (in_range_for c.args.n x) x) c.parse_command.result = search rules in
+    e ∙ command_read c.args.n (kept c.args.line.now) c.parse_command.result (c.parse_command.ensures ∙ ap parsed_command c.kept.ensures)

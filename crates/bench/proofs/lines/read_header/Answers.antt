@@ -1,13 +1,13 @@
--- A line is its guess or no header. Assumes nothing.
-use mathlib.Core.Path.{◌∙◌, sym}
-use Rattle.bench.proofs.Guessing.{is_header, too_large, not_header}
+-- What is read of the line, if it is in range. Assumes nothing.
+use Rattle.std.proofs.Common.{rules, ◌≡◌, ap, ◌∙◌}
+use Rattle.std.specs.Prelude.{option_and_then}
+use Rattle.std.specs.Bool.{then_some}
+use Rattle.bench.specs.Lines.{kept}
+use Rattle.bench.specs.Inside.{parsed_header, header_fits}
+use Rattle.bench.proofs.Parsing.{header_read}
 use Rattle.bench.proofs.lines.read_header.Goals as goal
 
-pub returns-then-is_header : goal.returns-then-is_header
-returns-then-is_header c = sym (is_header _ _ c.guess_header-h.ensures (sym c.header_fits.ensures ∙ c.if-header_fits.true) (sym c.is_header.ensures ∙ c.if-is_header.true))
-
-pub returns-else-is_header : goal.returns-else-is_header
-returns-else-is_header c = sym (not_header _ _ c.guess_header-h.ensures (sym c.is_header.ensures ∙ c.if-is_header.false))
-
-pub returns-else-header_fits : goal.returns-else-header_fits
-returns-else-header_fits c = sym (too_large _ _ c.guess_header-h.ensures (sym c.header_fits.ensures ∙ c.if-header_fits.false))
+pub returns : goal.returns
+returns c =
+    let e : c.filter.result ≡ option_and_then (λ x. then_some (header_fits x) x) c.parse_header.result = search rules in
+    e ∙ header_read (kept c.args.line.now) c.parse_header.result (c.parse_header.ensures ∙ ap parsed_header c.kept.ensures)

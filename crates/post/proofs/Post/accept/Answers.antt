@@ -1,24 +1,25 @@
-use borrow.Author.Rules.{rules}
-use mathlib.Core.Path.{subst, sym}
+use mathlib.Core.Path.{◌∙◌}
 use native.Mathlib.Omega.{arith}
-use Rattle.post.specs.Inside.{Countable}
+use Rattle.frame.proofs.Refusals.{no_refusal}
 use Rattle.post.proofs.Sound.Facts.{sound_has}
-use Rattle.post.proofs.Fields.Shape.{Kept}
-use Rattle.laws.proofs.ListLaws.{length_mapped}
-use Rattle.post.proofs.Works.Answering.{joined_countable, is_heard}
+use Rattle.post.proofs.Works.Answering.{joined-came, ack_written, is_acknowledged}
 use Rattle.post.proofs.Post.accept.Goals as goal
 
-pub overflow_add-ack : goal.overflow_add-ack
-overflow_add-ack c = let e = c.larger.ensures in let h = c.requires.4 in search rules
-
-pub settled-answer-requires : goal.settled-answer-requires
-settled-answer-requires c =
-    let k : Kept c.args.self = record { sound = c.requires.0; shape = record { last = search rules; slots = search (length_mapped, rules) }; width = search rules } in
-    subst Countable (sym c.joined.ensures) (joined_countable _ k _ _ _ _ _)
-
-pub returns : goal.returns
-returns c =
+pub unwrap-requires : goal.unwrap-requires
+unwrap-requires c =
     let s = sound_has _ c.requires.0 in
     let o = s.range.own_low in
     let h = s.range.posts_high in
-    is_heard c.args.self c.args.m _ c.requires.2 c.requires.3 c.larger.ensures c.joined.ensures c.settled-answer.ensures c.write.ensures (omega arith) c.requires.5
+    let w = c.write.ensures in
+    no_refusal _ ((rw c.new-ack.ensures at w.gives) ∙ ack_written c.args.self.now c.args.m _ _ (omega arith) c.requires.5)
+
+pub returns-clause-joins : goal.returns-clause-joins
+returns-clause-joins c = let j = c.join.ensures in joined-came c.args.self.now c.args.m c.requires.2 c.requires.3 c.max.ensures (rw c.new-ack.ensures at j)
+
+pub returns-clause-leaves : goal.returns-clause-leaves
+returns-clause-leaves c =
+    let s = sound_has _ c.requires.0 in
+    let o = s.range.own_low in
+    let h = s.range.posts_high in
+    let w = c.write.ensures in
+    is_acknowledged c.args.self.now c.args.m _ c.requires.3 c.max.ensures (rw c.new-ack.ensures at w) (omega arith) c.requires.5

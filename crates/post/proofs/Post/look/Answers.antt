@@ -12,16 +12,13 @@ use Rattle.frame.specs.declared.Message.{Message}
 use Rattle.frame.specs.Message.{blank}
 use Rattle.post.specs.Sound.{fair}
 use Rattle.post.proofs.Sound.Facts.{Fair, fair_is}
-use Rattle.post.proofs.Works.Looking.{fair_first, else_return, broken, begun, here, none_left, unfair, low, takes_small, returns_small, each_small, turned, right, found, looked}
+use Rattle.post.proofs.Works.Looking.{fair_first, else_return, broken, here, none_left, unfair, low, takes_small, returns_small, each_small, turned, right, found, looked}
 use Rattle.post.proofs.Post.look.Goals as goal
-use Rattle.post.proofs.Post.look.Goals.{then-not-is_fair-via-then-not-is_fair, then-not-is_fair-via-else-not-is_fair+then-t-top, then-m-self, then-m-eq-TAKE, else-m-eq-TAKE, else-m-self}
+use Rattle.post.proofs.Post.look.Goals.{then-not-is_fair-via-then-not-is_fair, then-not-is_fair-via-else-not-is_fair+then-t-top, then-m-self, then-m, else-m, else-m-self}
 
 -- what a fair message has
 has : (posts : ℕ) (last : List ℕ) (m : Message) {r : Bool} → posts ≤ length last → r ≡ fair (length (take posts last)) (take posts last) m → r ≡ true → Fair posts last m
 has posts last m h e y = fair_is posts last m (passes _ (sym (fair_first posts last m h) ∙ sym e ∙ y))
-
-pub loop-m-init : goal.loop-m-init
-loop-m-init c = begun _ _ _ _ _
 
 pub returns-then-not-is_fair : goal.returns-then-not-is_fair
 returns-then-not-is_fair c =
@@ -54,12 +51,12 @@ bounds-seen-m-in-loop-m c =
     let h : 16 ≤ length p.last = search rules in
     let f = has p.posts p.last _ (omega arith) c.is_fair.ensures c.if-not-is_fair.false in omega arith
 
-pub overflow_add-seen-then-m-eq-TAKE : goal.overflow_add-seen-then-m-eq-TAKE
-overflow_add-seen-then-m-eq-TAKE c =
+pub overflow_add-seen-then-m : goal.overflow_add-seen-then-m
+overflow_add-seen-then-m c =
     let h = takes_small _ _ _ _ _ (here _ _ _ _ _ c.loop-m-test.true c.loop-m.invariant) (omega arith) in record { fits = omega arith }
 
-pub overflow_add-seen-else-m-eq-TAKE : goal.overflow_add-seen-else-m-eq-TAKE
-overflow_add-seen-else-m-eq-TAKE c =
+pub overflow_add-seen-else-m : goal.overflow_add-seen-else-m
+overflow_add-seen-else-m c =
     let h = returns_small _ _ _ _ _ (here _ _ _ _ _ c.loop-m-test.true c.loop-m.invariant) (omega arith) in record { fits = omega arith }
 
 pub loop-m-preserved : goal.loop-m-preserved
@@ -72,9 +69,9 @@ loop-m-preserved c =
     let turn = turned _ _ _ _ _ (here _ _ _ _ _ c.loop-m-test.true c.loop-m.invariant) fit (omega arith) c.stamp-t.ensures c.if-t-top.false in
     elim c.if-m-self.branch [
       | then-m-self w ↦ let y = eq-eqb m.sender p.own w.if-m-self.true in
-          elim w.if-m-eq-TAKE.branch [
-            | then-m-eq-TAKE v ↦ rw (w.seen-is, v.seen-is) (turn _ refl (rw (y, v.if-m-eq-TAKE.true)) (rw (y, v.if-m-eq-TAKE.true) (omega arith)) (rw y))
-            | else-m-eq-TAKE v ↦ let k = else_return m f.kind v.if-m-eq-TAKE.false in rw (w.seen-is, v.seen-is) (turn _ refl (rw (y, k) (omega arith)) (rw (y, k)) (rw y))
+          elim w.if-m.branch [
+            | then-m v ↦ rw (w.seen-is, v.seen-is) (turn _ refl (rw (y, v.if-m.true)) (rw (y, v.if-m.true) (omega arith)) (rw y))
+            | else-m v ↦ let k = else_return m f.kind v.if-m.false in rw (w.seen-is, v.seen-is) (turn _ refl (rw (y, k) (omega arith)) (rw (y, k)) (rw y))
           ]
       | else-m-self w ↦ let y = ne_eqb m.sender p.own w.if-m-self.false in rw w.seen-is (turn _ refl (rw y (omega arith)) (rw y (omega arith)) (rw y))
     ]
