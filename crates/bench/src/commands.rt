@@ -1,4 +1,5 @@
 // What commands do to the records and the messages sent.
+// That posts are below 16 is required and no type: a `Command` may hold any number, and one for posts would be made anew at each call.
 ghost use Rattle.std.specs.Prelude.{◌≡◌, ◌+◌, ◌*◌, ◌<◌, IfSome, unwrap_or};
 ghost use Rattle.post.specs.declared.{Post.{Post}, Answer.{Answer}};
 ghost use Rattle.bench.specs.Night.{lent, opened, begun, post_of, handed_back, next_of, answered, ran};
@@ -24,7 +25,7 @@ fn opened(n: u8, k: u8, p: u8) -> Post
     .post
 }
 
-// The place of a pair's read position. That p is below 16 is required and no type: a `Command` may hold any number, and one for posts would be made anew at each call.
+// The place of a pair's read position.
 fn place(p: u8, q: u8) -> usize
     requires { (p < 16) × (q < 16) }
     ensures { (result ≡ 16 * p + q) × (result < 256) }

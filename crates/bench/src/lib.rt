@@ -101,6 +101,7 @@ impl Bench {
         page.last(self.places, held, waiting);
     }
 
+    // `Room` is required of each step, and is no invariant of a page: what is written uses it up.
     // The first line is whole.
     #[tactic(auto, unfolding(crate::specs::Bench::headed))]
     fn head(&mut self, page: &mut Page)

@@ -1,5 +1,6 @@
 // The lines that the bench writes, put into a lent buffer from a place on.
 // Not by `write!`: std promises a text where the result is Ok, and nowhere that it is.
+// That numbers are below 1000, as the definition `decimal` has it, is required and no type, which would be made anew at each call.
 ghost use Rattle.std.specs.Prelude.{[], ◌∷◌, ◌<◌};
 ghost use Rattle.frame.specs.Refusal.{number_in};
 ghost use Rattle.bench.specs.Inside.{Writes, granted_in};
@@ -28,7 +29,6 @@ impl Page<'_> {
         self.at = text::word(self.out, self.at, w);
     }
 
-    // Below 1000, as the definition `decimal` has it: required and no type, which would be made anew at each call.
     fn number(&mut self, n: u64)
         requires { n < 1000 }
         ensures { Writes self.old self.new (decimal n) }

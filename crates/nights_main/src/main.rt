@@ -106,12 +106,9 @@ fn night<W: Write>(rt: &HostRuntime, output: &mut W, i: usize) -> Outcome {
 // How many arguments there are, the program's own name among them.
 fn arg_count(rt: &HostRuntime) -> usize {
     let mut name = [0u8; 256];
-    for i in 0..usize::MAX {
-        if let Err(FillError::NotPresent) = rt.arg(i, &mut name) {
-            return i;
-        }
-    }
-    usize::MAX
+    (0..usize::MAX)
+        .find(|i| matches!(rt.arg(*i, &mut name), Err(FillError::NotPresent)))
+        .unwrap_or(usize::MAX)
 }
 
 fn main(rt: HostRuntime) {

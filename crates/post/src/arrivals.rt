@@ -37,7 +37,7 @@ impl Post {
         slots::is_counted(m)
     }
 
-    // The refusals of a message by its turn, where so many of its sender wait.
+    // The refusals of a message by its turn, where so many of its sender wait. What is required is no type (`join` says why).
     #[tactic(auto, unfolding(calls::specs::Table::turn_tests))]
     fn check_turn(&self, m: Message, count: u8) -> Result<(), Refusal>
         requires { T (sound self.now) × (m.sender < self.now.posts) × (count ≡ many (by m.sender) (waiting_of self.now)) }

@@ -38,7 +38,7 @@ impl Post {
     }
 
     // The floor: the least stamp over the other posts, above every stamp where there is none, as the definition `floor` has it.
-    // A chain (`filter`, `map`, `fold`) costs an acknowledgment with 16 posts 237 instructions more, beyond its limit.
+    // As a chain (`filter`, `map`, `fold`) it took 237 instructions more in an acknowledgment with 16 posts.
     pub(crate) fn floor(&self) -> u64
         requires { self.now.posts ≤ 16 }
         ensures { result ≡ floor self.now }
@@ -52,7 +52,7 @@ impl Post {
         least
     }
 
-    // The other posts whose last stamp is below t, bit q for post q. As a chain it takes `missing` beyond its limit with 4 posts.
+    // The other posts whose last stamp is below t, bit q for post q. With both as chains `missing` went beyond its limit with 4 posts.
     pub(crate) fn late(&self, t: u64) -> u16
         requires { self.now.posts ≤ 16 }
         ensures { result ≡ bits_to self.now.posts (λ q. not (eqb q self.now.own) && ltb (stamp_of (last_of self.now q) q) t) }

@@ -226,7 +226,7 @@ impl Post {
         self.speak(Own::Returning, buf)
     }
 
-    // A take or return comes in, and its acknowledgment goes out.
+    // A take or return comes in, and its acknowledgment goes out. What is required is no type (`join` says why).
     fn accept(&mut self, m: Message, buf: &mut [u8])
         requires { T (sound self.old) × (m.sender < self.old.posts) × T (counted m) × T (acks (view_of self.old) m) × (max self.old.clock m.counter < last_counter) × (size ≤ length buf.old) }
         ensures joins { self.new ≡ came self.old m }
@@ -259,7 +259,7 @@ impl Post {
     pub fn value(self) -> Result<i64, Refusal>
         ensures { value_told result ≡ valued self }
     {
-        if !self.sound() {
+        if !self.is_sound() {
             return Err(Refusal::Record);
         }
         Ok((self.places as u64 + self.returns) as i64 - self.takes as i64)
@@ -269,7 +269,7 @@ impl Post {
     pub fn missing(self) -> Result<Missing, Refusal>
         ensures { missing_told result ≡ missed self }
     {
-        if !self.sound() {
+        if !self.is_sound() {
             return Err(Refusal::Record);
         }
         if self.phase != Self::ASKED {

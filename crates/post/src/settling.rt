@@ -20,6 +20,7 @@ fn phase_after(phase: u8, order: u64, free: bool) -> u8
 }
 
 impl Post {
+    // `Countable` is required here and no type: a record of any bytes is not countable.
     // What is settled leaves the slots and is counted.
     fn tally(&mut self)
         requires { Countable self.old }

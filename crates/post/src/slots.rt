@@ -12,7 +12,7 @@ use frame::{Kind, Message};
 // What a look over the slots finds of the messages that wait there.
 #[derive(Clone, Copy)]
 pub(crate) struct Seen {
-    // how many of each sender
+    // how many of each sender: one number a post, since there is no heap
     pub counts: [u8; 16],
     // the own takes and returns, and the kind of the last of them, by its number as the definition `own_fits` has it
     pub takes: u8,
@@ -88,7 +88,7 @@ pub(crate) struct Gone {
     pub order: Option<u64>,
 }
 
-// Those that wait up to the floor leave, after so many takes. In one loop: with a chain for each count, a call that settles 58 needs 5397 instructions for 4105, beyond its limit.
+// Those that wait up to the floor leave, after so many takes. In one loop: with a chain for each count, a call that settles 58 took 5397 instructions for 4105, and went beyond its limit.
 pub(crate) fn leaving(waiting: &[Message], floor: u64, own: u8, takes: u64) -> Gone
     requires { (length waiting.now ≤ 62) × (takes < 2 ^ 62) }
     ensures { Left own takes (leading stamp floor waiting.now) result }
