@@ -52,7 +52,7 @@ impl Post {
         least
     }
 
-    // The other posts whose last stamp is below t, bit q for post q. With both as chains `missing` went beyond its limit with 4 posts.
+    // The other posts whose last stamp is below t, bit q for post q. By `for`, as `floor` is.
     pub(crate) fn late(&self, t: u64) -> u16
         requires { self.now.posts ≤ 16 }
         ensures { result ≡ bits_to self.now.posts (λ q. not (eqb q self.now.own) && ltb (stamp_of (last_of self.now q) q) t) }

@@ -17,10 +17,10 @@ impl Post {
         &self.slots[..self.waits as usize]
     }
 
-    // The stamp of the own take that waits; 0 where none does, as the definition `own_stamp` has it. It takes the record by value, for with `&self` `missing` needs 2088 bytes of stack.
-    pub(crate) fn own_stamp(self) -> u64
-        requires { self.waits ≤ 62 }
-        ensures { result ≡ own_stamp self.own (waiting_of self) }
+    // The stamp of the own take that waits; 0 where none does, as the definition `own_stamp` has it.
+    pub(crate) fn own_stamp(&self) -> u64
+        requires { self.now.waits ≤ 62 }
+        ensures { result ≡ own_stamp self.now.own (waiting_of self.now) }
     {
         slots::own_stamp(self.waiting(), self.own).unwrap_or(0)
     }
