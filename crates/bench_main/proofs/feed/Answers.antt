@@ -6,15 +6,15 @@ use lib.Seq.{length-take-le}
 use Rattle.bench.proofs.Fits.{fed_fits, fed_on}
 use Rattle.bench_main.proofs.feed.Goals as goal
 
-pub slice_bounds-out-end : goal.slice_bounds-out-end
-slice_bounds-out-end g c =
+pub slice_bounds-write_all-end : goal.slice_bounds-write_all-end
+slice_bounds-write_all-end g c =
     let f = fed_fits _ _ _ _ _ _ c.feed-f.ensures in
     let w = f.1 in
     let l = f.2 in
     omega arith
 
-pub slice_bounds-write_all-end : goal.slice_bounds-write_all-end
-slice_bounds-write_all-end g c =
+pub slice_bounds-write_all-end-in-loop-rest : goal.slice_bounds-write_all-end-in-loop-rest
+slice_bounds-write_all-end-in-loop-rest g c =
     let f = fed_fits _ _ _ _ _ _ c.feed-f.ensures in
     let w = f.1 in
     let l = f.2 in
