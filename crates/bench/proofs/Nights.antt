@@ -3,7 +3,7 @@ use denote.Param.Members.{Mut}
 use mathlib.Core.Path.{◌≡◌, refl, ap, ◌∙◌, sym, subst}
 use mathlib.Core.Bool.{Bool, true, false, cond}
 use mathlib.Core.List.{List, [], ◌∷◌, map}
-use Prim.Native.Nat.{ℕ, zero, suc, ◌+◌, ◌<◌}
+use Prim.Native.Nat.{ℕ, zero, suc, ◌+◌, ◌≤◌, ◌<◌}
 use native.Mathlib.Omega.{arith}
 use borrow.Author.Tests.{eq-eqb, ne_eqb, le-leb, lt-leb}
 use lib.Dec.{leb, eqb}
@@ -79,9 +79,9 @@ module _ (s s' : Night) (g : Result Bool Refusal) where
         h ∙ ap (λ (n : Night). answered n c) (off (eqb c.answer.number 0) _ _ (ne_eqb c.answer.number 0 (λ e. z ((λ j. (h j).number) ∙ e))) refl)
 
 module _ (s : Night) (p q i : ℕ) (e : i ≡ next_of s p q) where
-  pub none_next : i ≡ 256 → refused s 15 ≡ ran s (Some (Deliver p q))
+  pub none_next : 256 ≤ i → refused s 15 ≡ ran s (Some (Deliver p q))
   unfolding ran
-  none_next h = on (leb 256 (next_of s p q)) _ _ (ap (leb 256) (sym e) ∙ le-leb 256 i (omega arith)) refl
+  none_next h = on (leb 256 (next_of s p q)) _ _ (ap (leb 256) (sym e) ∙ le-leb 256 i h) refl
 
   pub one_next : i < 256 → offered s p q i ≡ ran s (Some (Deliver p q))
   unfolding ran

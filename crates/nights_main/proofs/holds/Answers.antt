@@ -27,7 +27,7 @@ pub returns : goal.returns
 returns c = λ e.
     let all : (c.feed-f.result.over ≡ true) ⊎ (length c.args.input.now ≤ c.feed-f.result.used) =
     elim c.else-not-f.branch [
-      | else-not-f-via-then-not-f+else-f-input v ↦ inr v.if-f-input.false
+      | else-not-f-via-then-not-f+else-f-input v ↦ inr (let h = v.if-f-input.false in omega arith)
       | else-not-f-via-else-not-f v ↦ inl (not-false _ v.if-not-f.false)
     ] in
     let s = c.in-Some-strip_prefix.ensures.cases in

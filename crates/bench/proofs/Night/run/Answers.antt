@@ -1,7 +1,10 @@
 -- By cases. Assumes nothing.
 use Rattle.std.proofs.Common.{◌≡◌, refl, ap, sym, subst, ◌∙◌, List, ℕ, ◌+◌, get_or, rules, Some, Option}
+use mathlib.Core.Bool.{Bool, true, false, true≢false}
+use native.Mathlib.Omega.{arith}
 use lib.ListN.{set}
-use Rattle.std.proofs.lemmas.Result.{err_from_is_err_and}
+use Rattle.std.specs.Prelude.{Result, Ok, Err, is_ok}
+use Rattle.frame.specs.declared.refusal.Refusal.{Refusal}
 use Rattle.calls.specs.declared.Own.TheVariants.{Taking, Returning}
 use Rattle.post.specs.Calls.{spoke, received, Gives}
 use Rattle.frame.specs.Message.{blank}
@@ -17,6 +20,15 @@ use Rattle.bench.proofs.Night.run.Goals as goal
 named : {c : Option Command} {d e : Command} → c ≡ Some d → d ≡ e → c ≡ Some e
 named p q = p ∙ ap Some q
 
+-- a result is done where its number is 0
+done : (r : Result Bool Refusal) → is_ok r ≡ true → number_in r ≡ 0
+done (Ok b) e = refl
+done (Err r) e = absurd (true≢false (sym e))
+
+not_done : (r : Result Bool Refusal) → is_ok r ≡ false → number_in r ≡ 0 → ⊥
+not_done (Ok b) e = absurd (true≢false e)
+not_done (Err r) e = not_zero r
+
 pub returns-in_default : goal.returns-in_default
 unfolding ran
 returns-in_default c = ap (ran c.args.self.now) (sym c.in_default.is)
@@ -24,7 +36,7 @@ returns-in_default c = ap (ran c.args.self.now) (sym c.in_default.is)
 pub returns-in_default-next : goal.returns-in_default-next
 returns-in_default-next c =
     let s = c.args.self.now in
-    none_next s _ _ _ c.in_default-next.ensures.place refl ∙ ap (ran s) (sym (named c.in-Some.is c.in-Deliver.is))
+    none_next s _ _ _ c.in_default-next.ensures.place (omega arith) ∙ ap (ran s) (sym (named c.in-Some.is c.in-Deliver.is))
 
 pub returns-in-Take : goal.returns-in-Take
 unfolding ran speaks
@@ -40,39 +52,36 @@ returns-in-Return c =
     let s = c.args.self.now in
     called_on s _ _ (spoke Returning) c.in-Return.p w.0 w.1.now w.2.now w.3 w.4 w.5 (search rules) w.7 ∙ ap (ran s) (sym (named c.in-Some.is c.in-Return.is))
 
-pub returns-in_ok-granted-in-Deliver : goal.returns-in_ok-granted-in-Deliver
+pub returns-then-is_ok : goal.returns-then-is_ok
 unfolding receives passed
-returns-in_ok-granted-in-Deliver c =
-    let w = c.call-in-Deliver.ensures in
+returns-then-is_ok c =
+    let w = c.call-outcome.ensures in
     let s = c.args.self.now in
     let p = c.in-Deliver.p in
     let q = c.in-Deliver.q in
     let i = c.in-Some-next.i in
     let frame = bytes_after lent 0 (get_or s.sent i blank) in
-    let ok = c.in_ok-granted-in-Deliver in
+    let g = c.call-outcome.result in
     let o : Gives (received w.0 c.write.new.buf w.1.now) w.3 w.2.now = search rules in
-    let m = called_on s _ _ (λ r. received r frame) q w.0 w.1.now w.2.now w.3 w.4 w.5 (subst (λ (f : List ℕ). Gives (received w.0 f w.1.now) w.3 w.2.now) c.write.ensures.leaves o) w.7 in
-    let n = c.call-in-Deliver.new.self in
-    (λ j. giving (record { posts = n.posts; sent = n.sent; count = n.count; read = set n.read (c.place.ensures.0 j) (i + 1) }) (sym ok.was j))
-    ∙ accepted s _ _ p q i m (ap number_in ok.was)
+    let m = called_on s _ g (λ r. received r frame) q w.0 w.1.now w.2.now w.3 w.4 w.5 (subst (λ (f : List ℕ). Gives (received w.0 f w.1.now) w.3 w.2.now) c.write.ensures.leaves o) w.7 in
+    let n = c.call-outcome.new.self in
+    (λ j. giving (record { posts = n.posts; sent = n.sent; count = n.count; read = set n.read (c.place.ensures.0 j) (i + 1) }) g)
+    ∙ accepted s _ g p q i m (done g (sym c.is_ok.ensures.value ∙ c.if-is_ok.true))
     ∙ one_next s p q i c.in-Some-next.ensures.place c.in-Some-next.ensures.within
     ∙ ap (ran s) (sym (named c.in-Some.is c.in-Deliver.is))
 
-pub returns-in_err-granted-in-Deliver : goal.returns-in_err-granted-in-Deliver
+pub returns-else-is_ok : goal.returns-else-is_ok
 unfolding receives
-returns-in_err-granted-in-Deliver c =
-    let w = c.call-in-Deliver.ensures in
+returns-else-is_ok c =
+    let w = c.call-outcome.ensures in
     let s = c.args.self.now in
     let p = c.in-Deliver.p in
     let q = c.in-Deliver.q in
     let i = c.in-Some-next.i in
     let frame = bytes_after lent 0 (get_or s.sent i blank) in
-    let err = c.in_err-granted-in-Deliver in
-    let r = err_from_is_err_and c.from_residual.result c.from_residual.ensures.1 in
+    let g = c.call-outcome.result in
     let o : Gives (received w.0 c.write.new.buf w.1.now) w.3 w.2.now = search rules in
-    let m = called_on s _ _ (λ r. received r frame) q w.0 w.1.now w.2.now w.3 w.4 w.5 (subst (λ (f : List ℕ). Gives (received w.0 f w.1.now) w.3 w.2.now) c.write.ensures.leaves o) w.7 in
-    rw (r.1, r.2)
-    (ap (giving c.call-in-Deliver.new.self) (sym err.was)
-    ∙ stays_next s _ _ p q i m (λ z. not_zero _ (sym (ap number_in err.was) ∙ z))
+    let m = called_on s _ g (λ r. received r frame) q w.0 w.1.now w.2.now w.3 w.4 w.5 (subst (λ (f : List ℕ). Gives (received w.0 f w.1.now) w.3 w.2.now) c.write.ensures.leaves o) w.7 in
+    stays_next s _ g p q i m (not_done g (sym c.is_ok.ensures.value ∙ c.if-is_ok.false))
     ∙ one_next s p q i c.in-Some-next.ensures.place c.in-Some-next.ensures.within
-    ∙ ap (ran s) (sym (named c.in-Some.is c.in-Deliver.is)))
+    ∙ ap (ran s) (sym (named c.in-Some.is c.in-Deliver.is))
