@@ -12,11 +12,15 @@ use Rattle.bench.specs.declared.Night.{Night}
 use Rattle.bench.specs.Text.{decimal, text, shown, answer_line, last_line}
 use Rattle.bench.specs.Bench.{in_phases, closing}
 
-text-few : (c : Command) → length (text c) ≤ 9
+pub text-few : (c : Command) → length (text c) ≤ 9
 unfolding text
 text-few (Take p) = let h = digits-few 3 p in omega arith
 text-few (Return p) = let h = digits-few 3 p in omega arith
 text-few (Deliver p q) = let h = digits-few 3 p in let k = digits-few 3 q in let l = length-append (decimal p) (32 ∷ decimal q) in omega arith
+
+-- two numbers with a space between them
+pub pair_few : (p q : ℕ) → length (decimal p ++ (32 ∷ decimal q)) ≤ 7
+pair_few p q = let h = digits-few 3 p in let k = digits-few 3 q in let l = length-append (decimal p) (32 ∷ decimal q) in omega arith
 
 shown_few : (c : Option Command) → length (shown c) ≤ 9
 unfolding shown

@@ -2,22 +2,24 @@
 use mathlib.Core.Path.{◌≡◌, refl, ap, ◌∙◌, sym}
 use mathlib.Core.Bool.{Bool, true, false, not, cond, ◌||◌}
 use mathlib.Core.List.{List, [], ◌∷◌, ◌++◌, append_assoc}
-use Prim.Native.Nat.{ℕ, suc, ◌+◌, ◌-◌, ◌≤◌}
+use Prim.Native.Nat.{ℕ, suc, ◌+◌, ◌-◌, ◌≤◌, ◌<◌}
 use native.Mathlib.Omega.{arith}
-use borrow.Author.Tests.{le-ltb}
+use borrow.Author.Tests.{le-ltb, lt-leb}
 use lib.Dec.{T, ltb, eqb, eqb→eq}
 use lib.ListN.{length, take, drop, length-append}
 use lib.Seq.{sets, length-sets}
 use Rattle.laws.proofs.Tests.{or_off}
 use Rattle.laws.proofs.StoreLaws.{take_sets}
+use Rattle.text.specs.Puts.{Puts}
 use Rattle.bench.specs.declared.Bench.{Bench}
+use Rattle.bench.specs.declared.Fed.{Fed}
 use Rattle.std.specs.Option.{unwrap_or}
 use Rattle.bench.specs.declared.lines.Header.{Header}
 use Rattle.std.specs.Prelude.{Option, Some, None}
 use Rattle.bench.specs.Text.{answer_line}
 use Rattle.bench.specs.Lines.{kept, header_of, command_of}
 use Rattle.bench.specs.Night.{ran}
-use Rattle.bench.specs.Bench.{Step, writes, is_over, longer, opens, headed, answers, stops, turned, plain, stepped, Feeding, stopped, feeding, closing, last_piece, closed, ending, finished, finished_bytes}
+use Rattle.bench.specs.Bench.{Step, writes, is_over, longer, opens, headed, answers, stops, turned, plain, stepped, Feeding, stopped, feeding, Feeds, closing, last_piece, closed, ending, finished, finished_bytes}
 use Rattle.bench.proofs.Lengths.{answer-few, closing-few}
 use Rattle.bench.proofs.Feeding.{roomy}
 
@@ -172,3 +174,25 @@ unfolding finished finished_bytes
 finish_runs b out h =
     let few = ending-few b in
     rw (le-ltb (length out) 64 h) (ap (λ (k : ℕ). take k (sets out 0 (ending b))) (let e : length (ending b) ≡ 0 + length (ending b) = omega arith in e) ∙ take_sets out 0 (ending b) (omega arith))
+
+module _ (b : Bench) (out : List ℕ) (k : b.mode < 2) (h : 64 ≤ length out) where
+  line_fed : feeding b (10 ∷ []) 0 0 out
+      ≡ record { bench = (turned b).bench; fed = record { used = 0 + 1; written = 0 + length (turned b).text; over = is_over (turned b).bench }; bytes = sets out 0 (turned b).text }
+  unfolding feeding stepped plain
+  line_fed = rw (lt-leb 2 b.mode k, le-ltb (length out - 0) 64 (let z : 64 ≤ length out - 0 = omega arith in z))
+
+  -- a line that lacks its LF is answered as if it had one
+  pub fed_line : (b' : Bench) (f : Fed) (new : List ℕ) → Feeds (feeding b (10 ∷ []) 0 0 out) b' f new
+      → (b' ≡ (turned b).bench) × Puts out new 0 (turned b).text f.written × (f.written ≤ 64) × (b'.mode ≡ 1 → f.written ≤ 32)
+  fed_line b' f new p =
+      let d : b' ≡ (turned b).bench = p.bench ∙ (λ i. (line_fed i).bench) in
+      let e = p.gives ∙ (λ i. (line_fed i).fed) in
+      let o = p.leaves ∙ (λ i. (line_fed i).bytes) in
+      let n : f.written ≡ 0 + length (turned b).text = λ i. (e i).written in
+      let few = turned-few b in
+      let m = few.0 in (
+        d,
+        record { next_place = n; bytes = o; long = ap length o ∙ length-sets out 0 (turned b).text },
+        omega arith,
+        λ z. (let l = few.1 ((λ i. (sym d i).mode) ∙ z) in omega arith),
+      )

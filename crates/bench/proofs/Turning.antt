@@ -1,24 +1,27 @@
 -- What a whole line of commands makes of the bench. Assumes nothing.
-use mathlib.Core.Path.{◌≡◌, ap, ap₂, ◌∙◌, sym}
-use mathlib.Core.Bool.{Bool, true, false, not, ◌||◌}
+use mathlib.Core.Path.{◌≡◌, refl, ap, ap₂, ◌∙◌, sym}
+use mathlib.Core.Bool.{Bool, true, false, true≢false, not, cond, ◌&&◌, ◌||◌}
 use mathlib.Core.List.{[]}
 use Prim.Native.Nat.{◌+◌, ◌≤◌, ◌<◌}
-use Rattle.std.specs.Prelude.{Option, Result}
+use Rattle.std.specs.Prelude.{Option, Some, None, Result}
 use native.Mathlib.Omega.{arith}
 use borrow.Author.Tests.{eq-eqb, ne_eqb, lt-ltb, le-ltb}
-use lib.Dec.{eqb}
+use lib.Dec.{eqb, ltb}
+use lib.ListN.{length}
+use Rattle.laws.specs.Search.{from}
 use Rattle.bench.specs.declared.Line.{Line}
 use Rattle.bench.specs.declared.Night.{Night}
 use Rattle.bench.specs.declared.Bench.{Bench}
 use Rattle.bench.specs.declared.writing.Page.{Page}
 use Rattle.frame.specs.declared.refusal.Refusal.{Refusal}
 use Rattle.frame.specs.Refusal.{number_in}
+use Rattle.bench.specs.declared.lines.Header.{Header}
 use Rattle.bench.specs.declared.lines.Command.{Command}
 use Rattle.bench.specs.Text.{answer_line}
-use Rattle.bench.specs.Lines.{empty, kept, command_of}
-use Rattle.bench.specs.Night.{Ran, ran}
+use Rattle.bench.specs.Lines.{empty, kept, header_of, command_of}
+use Rattle.bench.specs.Night.{begun, Ran, ran}
 use Rattle.bench.specs.Inside.{granted_in, giving, Writes, Room, Turns}
-use Rattle.bench.specs.Bench.{Step, writes, headed, answers, stops, turned, last_piece}
+use Rattle.bench.specs.Bench.{Step, writes, opens, headed, answers, stops, turned, last_piece}
 use Rattle.bench.proofs.Lengths.{answer-few}
 
 module _ (b : Bench) (c : Option Command) (r : Ran) (e : c ≡ command_of b.posts (kept b.line)) (d : r ≡ ran b.night c) where
@@ -43,6 +46,20 @@ module _ (b : Bench) where
   pub turned_stop : (b.mode ≡ 0 → ⊥) → 256 ≤ b.number → turned b ≡ stops b
   unfolding turned
   turned_stop z h = rw (ne_eqb b.mode 0 z, le-ltb b.number 256 h)
+
+  -- where no command is asked for, 16 records stay 16
+  pub turned_long : not (eqb b.mode 0) && ltb b.number 256 ≡ false → length b.night.posts ≡ 16 → length (turned b).bench.night.posts ≡ 16
+  unfolding turned headed stops begun from
+  turned_long e n = go (eqb b.mode 0) (ltb b.number 256) e
+    where
+      heads : (h : Option Header) → length (opens b h).bench.night.posts ≡ 16
+      heads (Some h) = refl
+      heads None = n
+
+      go : (s t : Bool) → not s && t ≡ false → length (cond s (headed b) (cond t (answers b) (stops b))).bench.night.posts ≡ 16
+      go true t e = heads (header_of (kept b.line))
+      go false true e = absurd (true≢false e)
+      go false false e = n
 
   pub pending : eqb b.mode 0 || not (eqb b.line.len 0) ≡ true → last_piece b ≡ turned b
   unfolding last_piece

@@ -3,13 +3,13 @@ use Prim.Native.Nat.{ℕ, ◌≤◌, ◌<◌}
 use mathlib.Core.Path.{◌≡◌, refl, ◌∙◌, sym}
 use mathlib.Core.List.{List, [], ◌∷◌, ◌++◌}
 use native.Mathlib.Omega.{arith}
-use borrow.Author.Tests.{lt-ltb, le-ltb, eq-eqb, ne_eqb}
+use borrow.Author.Tests.{lt-ltb, le-ltb, ltb-false, eq-eqb, ne_eqb}
 use lib.Dec.{ltb}
 use lib.ListN.{length, drop}
 use mathlib.Core.Bool.{false}
 use Rattle.frame.specs.declared.Message.{Message}
 use Rattle.laws.specs.Ladder.{refusal}
-use Rattle.laws.proofs.Ladders.{on, off}
+use Rattle.laws.proofs.Ladders.{on, off, quiet}
 use Rattle.fields.specs.Field.{with_field}
 use Rattle.fields.proofs.Rows.{stores, stores_row}
 use Rattle.frame.specs.declared.refusal.Refusal.{Refusal}
@@ -28,8 +28,13 @@ stored b₀ f m {b₆ = b₆} e₁ e₂ e₃ e₄ e₅ e₆ h =
     let e : b₆ ≡ stores b₀ 0 widths vs = cc in
     e ∙ stores_row b₀ 0 widths vs tt refl h
 
+-- where no row refuses a writing there is room
+pub room : (n : ℕ) (m : Message) → refusal (write_rows n m) ≡ 0 → size ≤ n
+unfolding write_rows
+room n m e = ltb-false n size (quiet (write_rows n m) tt e).0
+
 module _ (old : List ℕ) (f : ℕ) (m : Message) where
-  kept : (n : ℕ) → n ≡ write_no old m → (n ≡ 0 → ⊥) → Written old old f m n
+  pub kept : (n : ℕ) → n ≡ write_no old m → (n ≡ 0 → ⊥) → Written old old f m n
   unfolding bytes_after
   kept n e z = record { gives = e; leaves = off _ _ _ (ne_eqb (write_no old m) 0 (λ q. z (e ∙ q))) refl }
 

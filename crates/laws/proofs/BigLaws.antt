@@ -4,11 +4,12 @@ use Prim.Native.Nat.{ℕ, zero, suc, ◌+◌, ◌*◌, ◌/◌, ◌%◌, ◌^◌
 use mathlib.Core.Path.{◌≡◌, refl, ap, ap₂, ◌∙◌, sym, subst}
 use mathlib.Core.List.{List, [], ◌∷◌, ◌++◌}
 use native.Mathlib.Omega.{arith}
+use native.Mathlib.Numerals.{add-one}
 use native.Mathlib.Nat.{pow-suc, mul_comm, mul_assoc, mod-one, mod-lt, mod-eq_of_lt, add-mul}
 use lib.Arith.{mod-mul, digits_div, digits_mod, digits_lt}
 use lib.Dec.{lit<}
-use lib.ListN.{length, get_or, take, drop, take-append-drop, length-drop}
-use lib.Seq.{take_at, drop_at, length-take-le}
+use lib.ListN.{length, get_or, take, drop, take-append-drop, length-append, length-drop}
+use lib.Seq.{take_at, drop_at, length-take-le, take-suc, get_or-drop}
 use Rattle.laws.specs.Big.{Bytes, of_be, to_be, total, fields_in, field_bytes, Fit}
 
 pub pow_pos : (w : ℕ) → 0 < 256 ^ w
@@ -52,6 +53,19 @@ only_bytes bs h = ap (to_be (length bs)) (zero_above (256 ^ length bs) (of_be bs
   where
     zero_above : (p o : ℕ) → o ≡ 0 * p + o
     zero_above p o = omega arith
+
+-- one byte more, on the low side
+of_snoc : (bs : List ℕ) (b : ℕ) → of_be (bs ++ (b ∷ [])) ≡ of_be bs * 256 + b
+of_snoc [] b = omega arith
+of_snoc (x ∷ bs) b =
+    ap₂ (λ (n o : ℕ). x * 256 ^ n + o) (length-append bs (b ∷ []) ∙ add-one (length bs)) (of_snoc bs b)
+    ∙ rw (pow-suc, add-mul, mul_assoc) (omega arith)
+
+pub of_next : (s : List ℕ) (at i : ℕ) → at + i < length s → of_be (take (suc i) (drop at s)) ≡ of_be (take i (drop at s)) * 256 + get_or s (at + i) 0
+of_next s at i h =
+    ap of_be (take-suc (drop at s) i 0 (simp length-drop (omega arith)))
+    ∙ of_snoc (take i (drop at s)) (get_or (drop at s) i 0)
+    ∙ ap (λ (b : ℕ). of_be (take i (drop at s)) * 256 + b) (get_or-drop at s i 0)
 
 -- ---- the first w bytes of a list
 

@@ -1,9 +1,9 @@
 -- A case of a definition by tests, from what the code's tests say: rules for `search`. And what a table's 0 says. Assumes nothing.
-use Prim.Native.Nat.{◌<◌}
+use Prim.Native.Nat.{ℕ, ◌≤◌, ◌<◌}
 use native.Mathlib.Omega.{arith}
 use mathlib.Core.List.{List, [], ◌∷◌, ◌++◌}
-use lib.Dec.{T, ltb, ltb→lt}
-use Rattle.laws.proofs.Tests.{and_l, and_r}
+use lib.Dec.{T, ltb, leb, ltb→lt, leb→le, le→leb}
+use Rattle.laws.proofs.Tests.{and_l, and_r, same_test}
 use Rattle.laws.specs.Ladder.{Row, refusal}
 use mathlib.Core.Path.{◌≡◌, refl, ap, ◌∙◌, sym}
 use mathlib.Core.Bool.{Bool, true, false, cond, not, ◌&&◌, ◌||◌}
@@ -87,6 +87,10 @@ quiet (r ∷ rows) n e =
 pub unrefused : (rows : List Row) → Quiet rows → refusal rows ≡ 0
 unrefused [] q = refl
 unrefused (r ∷ rows) q = rw q.0 (unrefused rows q.1)
+
+-- two orders that say the same
+pub same-leb : (a b c d : ℕ) → (a ≤ b → c ≤ d) → (c ≤ d → a ≤ b) → leb a b ≡ leb c d
+same-leb a b c d f g = same_test (leb a b) (leb c d) (λ t. le→leb c d (f (leb→le a b t))) (λ t. le→leb a b (g (leb→le c d t)))
 
 -- two tables one after the other: the first refuses, or the second is left
 pub first_refuses : (xs ys : List Row) → (refusal xs ≡ 0 → ⊥) → refusal xs ≡ refusal (xs ++ ys)

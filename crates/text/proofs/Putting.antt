@@ -5,10 +5,10 @@ use Prim.Native.Nat.{ℕ, ◌+◌, ◌-◌, ◌≤◌}
 use native.Mathlib.Omega.{arith}
 use borrow.Rule.Slice.PartMut.{put_mid}
 use borrow.Author.Tests.{le-leb}
-use lib.ListN.{length, length-append}
+use lib.ListN.{length, take, length-append}
 use lib.Seq.{sets, sets-eq, take_all}
 use Rattle.std.proofs.lemmas.Slice.{put_mid-paste}
-use Rattle.laws.proofs.StoreLaws.{sets_append}
+use Rattle.laws.proofs.StoreLaws.{sets_append, take_sets}
 use Rattle.text.specs.Puts.{Puts, fitting, Lays}
 
 pub then : {old mid new s t : List ℕ} {at a b : ℕ} → Puts old mid at s a → Puts mid new a t b → Puts old new at (s ++ t) b
@@ -59,3 +59,10 @@ and_then {old} {mid} {new} {s} {t} {at} {a} {b} p q = record { puts = all; long 
 -- another way to write the text
 pub reworded : {old new s t : List ℕ} {at next : ℕ} → s ≡ t → Lays old new at s next → Lays old new at t next
 reworded e p = rw (sym e) p
+
+-- a text put at the start stands there
+pub stands_first : {old new text : List ℕ} {n : ℕ} → Lays old new 0 text n → length text ≤ length old → (n ≡ length text) × (take n new ≡ text)
+stands_first {old} {new} {text} {n} l h =
+    let p = l.puts (omega arith) in
+    let k = p.next_place in
+    (omega arith, ap (λ (i : ℕ). take i new) k ∙ ap (take (0 + length text)) p.bytes ∙ take_sets old 0 text (omega arith))

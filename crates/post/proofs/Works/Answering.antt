@@ -74,6 +74,13 @@ module _ (p : Post) (k : Kept p) where
       (λ y. length_with m)
       (λ n. let b = length-waiting p s k.shape in let w = s.waits in omega arith)))
 
+  -- a message that is only noted leaves those that wait as they are
+  pub noted_countable : (m : Message) → Countable (noted p m)
+  unfolding noted
+  noted_countable m =
+      let s = sound_has p k.sound in
+      remade_countable _ _ _ _ _ (let b = length-waiting p s k.shape in let w = s.waits in omega arith)
+
 -- in another phase, under another order number
 abbrev pub turned_to : Post → ℕ → ℕ → Post
 turned_to p phase order = made (start_of p) p.clock p.last p.waits p.slots p.takes p.returns phase order
