@@ -1,15 +1,20 @@
 -- Texts put one after the other into a buffer are one text. Assumes nothing.
 use mathlib.Core.Path.{◌≡◌, refl, ap, ◌∙◌, sym}
-use mathlib.Core.List.{List, ◌++◌}
-use Prim.Native.Nat.{ℕ, ◌+◌, ◌-◌, ◌≤◌}
+use mathlib.Core.List.{List, [], ◌++◌}
+use Prim.Native.Nat.{ℕ, ◌+◌, ◌-◌, ◌≤◌, ◌<◌}
 use native.Mathlib.Omega.{arith}
 use borrow.Rule.Slice.PartMut.{put_mid}
-use borrow.Author.Tests.{le-leb}
+use borrow.Author.Tests.{le-leb, lt-leb}
+use lib.Dec.{leb, leb→le, le→leb}
 use lib.ListN.{length, take, length-append}
 use lib.Seq.{sets, sets-eq, take_all}
 use Rattle.std.proofs.lemmas.Slice.{put_mid-paste}
+use Rattle.laws.proofs.Tests.{same_test}
 use Rattle.laws.proofs.StoreLaws.{sets_append, take_sets}
 use Rattle.text.specs.Puts.{Puts, fitting, Lays}
+
+pub nothing : (old : List ℕ) (at : ℕ) → Puts old old at [] at
+nothing old at = record { next_place = omega arith; bytes = refl; long = refl }
 
 pub then : {old mid new s t : List ℕ} {at a b : ℕ} → Puts old mid at s a → Puts mid new a t b → Puts old new at (s ++ t) b
 then {old} {mid} {new} {s} {t} {at} {a} {b} p q =
@@ -31,6 +36,20 @@ spelled e p = rw (sym e) p
 pub room : (old : List ℕ) (at : ℕ) (text : List ℕ) → at + length text ≤ length old → fitting old at text ≡ text
 unfolding fitting
 room old at text h = rw (le-leb (at + length text) (length old) h)
+
+pub no_room : (old : List ℕ) (at : ℕ) (text : List ℕ) → length old < at + length text → fitting old at text ≡ []
+unfolding fitting
+no_room old at text h = rw (lt-leb (at + length text) (length old) h)
+
+pub puts_none : (old : List ℕ) (at : ℕ) (text : List ℕ) → length old < at + length text → Puts old old at (fitting old at text) at
+puts_none old at text h = spelled (sym (no_room old at text h)) (nothing old at)
+
+-- a sum that may be too large, tested by a difference
+pub fits_behind : (len at n : ℕ) → at ≤ len → leb n (len - at) ≡ leb (at + n) len
+fits_behind len at n h =
+    same_test (leb n (len - at)) (leb (at + n) len)
+    (λ t. let k = leb→le n (len - at) t in le→leb (at + n) len (omega arith))
+    (λ t. let k = leb→le (at + n) len t in le→leb n (len - at) (omega arith))
 
 -- a word laid over the bytes from a place on
 pub laid_over : (old w part : List ℕ) (at : ℕ) → at + length w ≤ length old → part ≡ w → put_mid at (at + length w - at) old part ≡ sets old at w
